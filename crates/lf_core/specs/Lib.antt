@@ -6,3 +6,4 @@ pub mod ExprNode
 pub mod Same
 pub mod Level
 pub mod Substitution
+pub mod Literal
