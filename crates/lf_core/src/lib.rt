@@ -5,6 +5,7 @@ mod binder;
 mod constant;
 mod expr;
 mod level;
+mod literal;
 mod memory;
 mod name;
 mod word;
@@ -15,6 +16,7 @@ pub use constant::{
 };
 pub use expr::{Expr, ExprNode, copy_levels, discard, same_levels};
 pub use level::{Level, LevelNode, discard_level};
+pub use literal::LitOut;
 pub use memory::NoMemory;
 pub use name::{Name, same_parts};
 pub use word::Word;
