@@ -1,5 +1,5 @@
 -- The tokens of a text of axioms: at each place the longest.
-use Rattle.std.specs.Prelude.{◌≡◌, ℕ, ◌+◌, ◌*◌, ◌-◌, ◌≤◌, ◌<◌, List, [], ◌∷◌, length, take, drop, Bool, true, false, ◌||◌, ◌&&◌, ◌==◌, nat_le, if◌then◌else◌, codes}
+use Rattle.std.specs.Prelude.{◌≡◌, ℕ, ◌+◌, ◌*◌, ◌-◌, ◌≤◌, ◌<◌, List, [], ◌∷◌, length, take, drop, Bool, true, false, ◌||◌, ◌&&◌, ◌==◌, nat_le, nat_lt, if◌then◌else◌, codes}
 use Rattle.std.specs.List.{list_all, list_any, prefix_len}
 use Rattle.std.specs.Char.{is_ascii_alphabetic, is_ascii_digit}
 use Rattle.std.specs.Str.{bytes_eq}
@@ -19,6 +19,9 @@ starts c = (c == 95) || is_ascii_alphabetic c
 
 abbrev pub goes_on : ℕ → Bool
 goes_on c = starts c || is_digit c
+
+abbrev pub is_ascii : ℕ → Bool
+is_ascii c = nat_lt c 128
 
 abbrev pub part_next : List ℕ → Bool
 part_next [] = false
@@ -50,13 +53,27 @@ abbrev pub is_lexeme : List ℕ → Bool
 is_lexeme [] = false
 is_lexeme (c ∷ cs) = if starts c then is_tail cs else (if is_digit c then list_all goes_on cs else is_symbol (c ∷ cs))
 
--- Words that are no identifiers.
-abbrev pub reserved : List (List ℕ)
-reserved = codes "axiom" ∷ codes "def" ∷ codes "theorem" ∷ codes "inductive" ∷ codes "namespace" ∷ codes "section" ∷ codes "end" ∷ codes "open"
-  ∷ codes "universe" ∷ codes "variable" ∷ codes "abbrev" ∷ codes "attribute" ∷ codes "class" ∷ codes "deriving" ∷ codes "example" ∷ codes "import"
-  ∷ codes "instance" ∷ codes "macro" ∷ codes "mutual" ∷ codes "noncomputable" ∷ codes "notation" ∷ codes "opaque" ∷ codes "partial" ∷ codes "private"
-  ∷ codes "protected" ∷ codes "set_option" ∷ codes "structure" ∷ codes "syntax" ∷ codes "unsafe" ∷ codes "fun" ∷ codes "forall" ∷ codes "let" ∷ codes "by"
-  ∷ codes "where" ∷ codes "Prop" ∷ codes "Type" ∷ codes "Sort" ∷ codes "sorry" ∷ codes "_" ∷ []
+-- Words that are no identifiers: those that begin a command, those that begin a command which isn't there, and the others.
+abbrev pub command_words : List (List ℕ)
+command_words = codes "axiom" ∷ codes "def" ∷ codes "theorem" ∷ codes "inductive" ∷ codes "namespace" ∷ codes "section" ∷ codes "end" ∷ codes "open"
+  ∷ codes "universe" ∷ codes "variable" ∷ []
+
+abbrev pub left_out_words : List (List ℕ)
+left_out_words = codes "abbrev" ∷ codes "attribute" ∷ codes "class" ∷ codes "deriving" ∷ codes "example" ∷ codes "import" ∷ codes "instance" ∷ codes "macro"
+  ∷ codes "mutual" ∷ codes "noncomputable" ∷ []
+
+abbrev pub more_left_out_words : List (List ℕ)
+more_left_out_words = codes "notation" ∷ codes "opaque" ∷ codes "partial" ∷ codes "private" ∷ codes "protected" ∷ codes "set_option" ∷ codes "structure"
+  ∷ codes "syntax" ∷ codes "unsafe" ∷ []
+
+abbrev pub other_words : List (List ℕ)
+other_words = codes "fun" ∷ codes "let" ∷ codes "by" ∷ codes "where" ∷ codes "sorry" ∷ codes "_" ∷ []
+
+abbrev pub is_one_of : List (List ℕ) → List ℕ → Bool
+is_one_of words cs = list_any (bytes_eq cs) words
+
+abbrev pub is_reserved : List ℕ → Bool
+is_reserved cs = is_one_of command_words cs || (is_one_of left_out_words cs || (is_one_of more_left_out_words cs || is_one_of other_words cs))
 
 abbrev pub onto_first : ℕ → Path → Path
 onto_first c [] = (c ∷ []) ∷ []
@@ -73,7 +90,7 @@ word_token cs = if bytes_eq cs (codes "axiom") then token.Axiom
     else (if bytes_eq cs (codes "Prop") then token.Prop
     else (if bytes_eq cs (codes "Type") then token.Type
     else (if bytes_eq cs (codes "Sort") then token.Sort
-    else (if list_any (bytes_eq cs) reserved then token.Other else token.Ident (parts_of cs))))))
+    else (if is_reserved cs then token.Other else token.Ident (parts_of cs))))))
 
 -- The value of the digits behind those that are worth n.
 abbrev pub value_after : ℕ → List ℕ → ℕ

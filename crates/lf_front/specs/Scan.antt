@@ -1,8 +1,7 @@
 -- How far the scanner goes at each kind of lexeme.
 use Rattle.std.specs.Prelude.{ℕ, ◌+◌, List, [], ◌∷◌, take, ◌||◌, if◌then◌else◌, codes}
-use Rattle.std.specs.List.{prefix_len}
 use Rattle.std.specs.Str.{bytes_eq}
-use Rattle.lf_front.specs.Lexemes.{starts, goes_on, goes_over, is_digit, arrow, for_all}
+use Rattle.lf_front.specs.Lexemes.{goes_over, arrow, for_all}
 
 abbrev pub tail_len : List ℕ → ℕ
 tail_len [] = 0
@@ -10,7 +9,3 @@ tail_len (c ∷ cs) = if goes_over c cs then tail_len cs + 1 else 0
 
 abbrev pub symbol_len : List ℕ → ℕ
 symbol_len cs = if bytes_eq (take 3 cs) arrow || bytes_eq (take 3 cs) for_all then 3 else (if bytes_eq (take 2 cs) (codes "->") then 2 else 1)
-
-abbrev pub lexeme_len : List ℕ → ℕ
-lexeme_len [] = 0
-lexeme_len (c ∷ cs) = if starts c then tail_len cs + 1 else (if is_digit c then prefix_len goes_on cs + 1 else symbol_len (c ∷ cs))
