@@ -1,3 +1,4 @@
 pub mod Lexemes
 pub mod Scan
 pub mod Grammar
+pub mod Parser

@@ -2,4 +2,5 @@
 #![tactic(auto)]
 
 mod names;
+mod parse;
 mod token;
