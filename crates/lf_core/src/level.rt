@@ -3,6 +3,7 @@ ghost use Rattle.lf_core.specs.Term.{level_zero, level_succ, level_max, level_im
 ghost use Rattle.lf_core.specs.Same.{same_universe};
 ghost use Rattle.lf_core.specs.Node.{universe_of};
 ghost use Rattle.lf_core.specs.Size as size;
+ghost use Rattle.lf_core.specs.Substitution.{level_substitute};
 
 use crate::memory::NoMemory;
 use std::alloc::Global;
@@ -176,6 +177,29 @@ impl Level {
             LevelNode::Max(l, m) => Level::max(alloc, l.copy(alloc)?, m.copy(alloc)?),
             LevelNode::Imax(l, m) => Level::imax(alloc, l.copy(alloc)?, m.copy(alloc)?),
             LevelNode::Param(k) => Level::param(alloc, *k),
+            LevelNode::Meta(k) => Level::meta(alloc, *k),
+        }
+    }
+
+    /// This level with an argument for each parameter. A parameter past the arguments stays.
+    pub fn substitute(&self, alloc: Global, args: &[Level]) -> Result<Level, NoMemory>
+        ensures { IfOk result (λ t. t ≡ level_substitute args.now self.now) }
+    {
+        match &*self.node {
+            LevelNode::Zero => Level::zero(alloc),
+            LevelNode::Succ(l) => Level::succ(alloc, l.substitute(alloc, args)?),
+            LevelNode::Max(l, m) => {
+                let l = l.substitute(alloc, args)?;
+                Level::max(alloc, l, m.substitute(alloc, args)?)
+            }
+            LevelNode::Imax(l, m) => {
+                let l = l.substitute(alloc, args)?;
+                Level::imax(alloc, l, m.substitute(alloc, args)?)
+            }
+            LevelNode::Param(k) => match args.get(*k as usize) {
+                Some(arg) => arg.copy(alloc),
+                None => Level::param(alloc, *k),
+            },
             LevelNode::Meta(k) => Level::meta(alloc, *k),
         }
     }

@@ -16,7 +16,7 @@ pub use constant::{
 };
 pub use expr::{Expr, ExprNode, copy_levels, discard, same_levels};
 pub use level::{Level, LevelNode, discard_level};
-pub use literal::LitOut;
+pub use literal::{LitOut, Operation};
 pub use memory::NoMemory;
 pub use name::{Name, same_parts};
 pub use word::Word;

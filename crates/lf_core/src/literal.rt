@@ -4,3 +4,18 @@ pub enum LitOut {
     Nat(u128),
     Bool(bool),
 }
+
+/// The functions of `Nat` that are computed on literals.
+#[derive(Clone, Copy, Debug, PartialEq, Eq)]
+pub enum Operation {
+    Add,
+    Sub,
+    Mul,
+    Div,
+    Mod,
+    Beq,
+    Ble,
+    Land,
+    Lor,
+    Xor,
+}

@@ -1,4 +1,4 @@
-ghost use Rattle.std.specs.Prelude.{◌≡◌, ◌↔◌, ◌+◌, ◌<◌, ◌≤◌, IsTrue, IfOk, MatchOption};
+ghost use Rattle.std.specs.Prelude.{◌≡◌, ◌↔◌, ◌+◌, ◌^◌, ◌<◌, ◌≤◌, IsTrue, IfOk, MatchOption};
 ghost use Rattle.lf_core.specs.Size as size;
 ghost use Rattle.lf_core.specs.Substitution as spec;
 ghost use Rattle.lf_subst.specs.Answer.{Substitutes};
@@ -51,13 +51,29 @@ fn raise(alloc: Global, under: u32, n: u32, term: &Expr) -> Result<Expr, NoMemor
     }
 }
 
+// The depth of what stands for the variable of this index under `under` binders.
+#[tactic(auto, using(crate::proofs::Sizes::variable_depth_is))]
+fn variable_depth(index: u32, under: u32, arg: &Expr) -> u32
+    ensures { result ≡ size.depth (spec.instantiate_variable under arg.now index) }
+{
+    if index == under { arg.depth() } else { 1 }
+}
+
+// The number of nodes of what stands for the variable of this index under `under` binders.
+#[tactic(auto, using(crate::proofs::Sizes::variable_count_is))]
+fn variable_count(index: u32, under: u32, arg: &Expr) -> u64
+    ensures { result ≡ size.node_count (spec.instantiate_variable under arg.now index) }
+{
+    if index == under { arg.node_count() } else { 1 }
+}
+
 // Whether `body` with `arg` for the variable under `under` binders is at most `limit` deep.
 fn is_within(limit: u32, under: u32, arg: &Expr, body: &Expr) -> bool
     requires { under + size.depth body.now < 2 ^ 32 }
     ensures { IsTrue result ↔ (size.depth (spec.instantiate_at under body.now arg.now) ≤ limit) }
 {
     match body.node() {
-        ExprNode::Bound(i) => limit >= if *i == under { arg.depth() } else { 1 },
+        ExprNode::Bound(i) => variable_depth(*i, under, arg) <= limit,
         ExprNode::App(f, a) => {
             limit > 0 && is_within(limit - 1, under, arg, f) && is_within(limit - 1, under, arg, a)
         }
@@ -86,7 +102,7 @@ fn spend(left: u64, under: u32, arg: &Expr, body: &Expr) -> Option<u64>
     ensures { MatchOption result (left < size.node_count (spec.instantiate_at under body.now arg.now)) (λ rest. rest + size.node_count (spec.instantiate_at under body.now arg.now) ≡ left) }
 {
     match body.node() {
-        ExprNode::Bound(i) => left.checked_sub(if *i == under { arg.node_count() } else { 1 }),
+        ExprNode::Bound(i) => left.checked_sub(variable_count(*i, under, arg)),
         ExprNode::App(f, a) => {
             let left = spend(left.checked_sub(1)?, under, arg, f)?;
             spend(left, under, arg, a)
