@@ -1,0 +1,4 @@
+pub mod Variables
+pub mod Scopes
+pub mod Closes
+pub mod Grows
