@@ -2,3 +2,6 @@ pub mod Variables
 pub mod Scopes
 pub mod Closes
 pub mod Grows
+pub mod Pure_typing
+pub mod Collapses
+pub mod Proofs_alike
