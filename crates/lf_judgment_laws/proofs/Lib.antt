@@ -5,3 +5,5 @@ pub mod Grows
 pub mod Pure_typing
 pub mod Collapses
 pub mod Proofs_alike
+pub mod Freshness
+pub mod Odd_names

@@ -4,6 +4,7 @@
 ghost use Rattle.lf_judgment_laws.specs.Growth.{RelationsGrow};
 ghost use Rattle.lf_judgment_laws.specs.InScope.{DerivedIsClosed, RelationsKeepScope};
 ghost use Rattle.lf_judgment_laws.specs.Loose.{CapturingCollapses, PartialCollapses, UnfreshCollapses};
+ghost use Rattle.lf_judgment_laws.specs.Names.{OddNumbers, TwiceNamed};
 ghost use Rattle.lf_judgment_laws.specs.Pure.{TypingIsPure};
 ghost use Rattle.lf_judgment_laws.specs.Untyped.{UntypedCollapses};
 
@@ -52,5 +53,17 @@ pub fn partial_abstraction_inhabits_every_type()
 /// Why steps are asked to start from formed terms.
 pub fn steps_of_unformed_terms_make_all_equal()
     ensures { UntypedCollapses }
+{
+}
+
+/// Why names are fresh: with two constants of one name, each right over those before it, falsity has a proof.
+pub fn names_must_be_fresh()
+    ensures { TwiceNamed }
+{
+}
+
+/// Why the base is part of what is believed: where the constants that literals name are others, falsity has a proof.
+pub fn numbers_must_be_ordinary()
+    ensures { OddNumbers }
 {
 }
