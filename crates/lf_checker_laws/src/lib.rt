@@ -1,0 +1,10 @@
+//! Laws on the plain checker: each public function's contract is one of them.
+#![tactic(auto)]
+
+ghost use Rattle.lf_checker_laws.specs.Worked.{Answers};
+
+/// Answers that are known from elsewhere.
+pub fn worked_answers()
+    ensures { Answers }
+{
+}
