@@ -52,5 +52,7 @@ pub record Extends (V U : View) : Type 0 where
   pub position : V.position ≡ U.position
   pub lookups : (n : Path) → SameLookup (lookup_of U n) (lookup_of V n)
   pub bodies : (n : Path) (c : ConstInfo) → lookup_of U n ≡ found c → SameBody (body_of U n) (body_of V n)
+  -- a realized name that the one needs isn't waited for by a body in the other
+  pub reals : (n : Path) → lookup_of U n ≡ need_real → IsAnswered (lookup_of V n)
   pub entries : (n : Path) → IsAnswered (lookup_of U n) → position_placed (placed_of U n) ≡ position_placed (placed_of V n)
   pub axioms : SameOrder V U
