@@ -4,8 +4,8 @@ use Rattle.lf_core.specs.Term.{Path, Universe, Term, bound, free, meta, sort, co
 use Rattle.lf_core.specs.Spine.{head_of, arguments_of}
 use Rattle.lf_core.specs.Same.{same}
 use Rattle.lf_core.specs.Environment.{Context, nat_succ}
-use Rattle.lf_core.specs.Literal.{LiteralValue}
-use Rattle.lf_core.specs.Step.{operation_of}
+use Rattle.lf_core.specs.Literal.{literal_operation}
+use Rattle.lf_core.specs.declared.literal.LitOut.{LitOut}
 use Rattle.lf_core.specs.Judgment.{result_level}
 use Rattle.lf_core.specs.declared.constant.ConstInfo.{ConstInfo}
 use Rattle.lf_core.specs.declared.constant.Detail.{Detail}
@@ -67,12 +67,12 @@ kept_recursor U V c d x a C ls r None u = refl
 kept_recursor U V c d x a C ls r (Some s) u =
     kept_seen (see U r.ind) (see V r.ind) (λ q. at_major U c C ls r s q u) (λ q. at_major V d C ls r s q u) (λ k. refl) (λ q. kept_major U V c d x a C ls r s q u) (see_kept U V x r.ind)
 
-kept_operated : (o : Option LiteralValue) (m n : Run Progress) (u : ℕ) → Kept (m u) (n u) → Kept (operated o m u) (operated o n u)
+kept_operated : (o : Option LitOut) (m n : Run Progress) (u : ℕ) → Kept (m u) (n u) → Kept (operated o m u) (operated o n u)
 kept_operated (Some r) m n u h = refl
 kept_operated None m n u h = h
 
 kept_numbers : (k : Path) (p q : Option ℕ) (m n : Run Progress) (u : ℕ) → ((v : ℕ) → Kept (m v) (n v)) → Kept (on_numbers k p q m u) (on_numbers k p q n u)
-kept_numbers k (Some i) (Some j) m n u h = kept_operated (operation_of k i j) m n u (h u)
+kept_numbers k (Some i) (Some j) m n u h = kept_operated (literal_operation k i j) m n u (h u)
 kept_numbers k _ _ m n u h = h u
 
 kept_operands : (c d : Calls) → Agree c d → (C : Context) (k : Path) (s t : Term) (m n : Run Progress) (u : ℕ) → ((v : ℕ) → Kept (m v) (n v)) → Kept (operands c C k s t m u) (operands d C k s t n u)

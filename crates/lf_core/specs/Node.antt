@@ -5,8 +5,8 @@ use Rattle.lf_core.specs.declared.level.LevelNode.TheVariants.{Zero, Succ, Max, 
 
 abbrev pub universe_of : LevelNode → Universe
 universe_of Zero = level_zero
-universe_of (Succ l) = level_succ l.value
-universe_of (Max l m) = level_max l.value m.value
-universe_of (Imax l m) = level_imax l.value m.value
+universe_of (Succ l) = level_succ l
+universe_of (Max l m) = level_max l m
+universe_of (Imax l m) = level_imax l m
 universe_of (Param k) = level_param k
 universe_of (Meta k) = level_meta k

@@ -1,25 +1,23 @@
 -- One step of reduction at the head of a term, with no look at types (Lean 4 reference manual, "The Type System", on reduction;
 -- Carneiro 2019, chapter 2; the steps of literals are those of Lean's kernel).
-use Rattle.std.specs.Prelude.{◌≡◌, ℕ, suc, ◌+◌, ◌^◌, ◌<◌, true, false, Option, Some, None, List, [], ◌∷◌, ◌++◌, length, slice_get, take, drop, Contains, codes}
+use Rattle.std.specs.Prelude.{◌≡◌, ℕ, suc, ◌+◌, ◌^◌, ◌<◌, true, false, Some, List, [], ◌∷◌, ◌++◌, length, slice_get, take, drop, Contains, codes}
 use Rattle.lf_core.specs.Term.{Path, Universe, Term, app, lam, letin, const, lit}
 use Rattle.lf_core.specs.Substitution.{instantiate, level_instantiate}
 use Rattle.lf_core.specs.Spine.{apply}
 use Rattle.lf_core.specs.Environment.{Environment, nat_zero, nat_succ}
-use Rattle.lf_core.specs.Literal.{LiteralValue, number, truth, literal_operation}
+use Rattle.lf_core.specs.Literal.{literal_operation}
+use Rattle.lf_core.specs.declared.literal.LitOut.{LitOut}
+use Rattle.lf_core.specs.declared.literal.LitOut.TheVariants.{Nat, Bool}
 use Rattle.lf_core.specs.declared.binder.Binder.{Binder}
 use Rattle.lf_core.specs.declared.constant.ConstInfo.{ConstInfo}
 use Rattle.lf_core.specs.declared.constant.ConstKind.TheVariants.{Def}
 use Rattle.lf_core.specs.declared.constant.Detail.TheVariants.{Ctor, Rec}
 
--- The operation that a constant with a name of two parts stands for.
-abbrev pub operation_of : Path → ℕ → ℕ → Option LiteralValue
-operation_of (space ∷ name ∷ []) m n = literal_operation (space ++ codes "." ++ name) m n
-operation_of _ m n = None
-
-abbrev pub literal_term : LiteralValue → Term
-literal_term (number n) = lit n
-literal_term (truth true) = const (codes "Bool" ∷ codes "true" ∷ []) []
-literal_term (truth false) = const (codes "Bool" ∷ codes "false" ∷ []) []
+-- The term that an operation on literals gives: a literal or a constructor of `Bool`.
+abbrev pub literal_term : LitOut → Term
+literal_term (Nat n) = lit n
+literal_term (Bool true) = const (codes "Bool" ∷ codes "true" ∷ []) []
+literal_term (Bool false) = const (codes "Bool" ∷ codes "false" ∷ []) []
 
 -- A recursor's rule at these levels, applied to the parameters, motive and minor premises of `before` and to the fields.
 abbrev pub by_rule : Term → List Universe → ℕ → List Term → List Term → Term
@@ -41,4 +39,4 @@ pub data Step (E : Environment) : Term → Term → Type 0 where
   -- numbers below 2^128
   literal_zero : Step E (lit 0) nat_zero
   literal_succ : (n : ℕ) → suc n < 2 ^ 128 → Step E (lit (suc n)) (app nat_succ (lit n))
-  operation : (op : Path) (m n : ℕ) (r : LiteralValue) → operation_of op m n ≡ Some r → Step E (app (app (const op []) (lit m)) (lit n)) (literal_term r)
+  operation : (op : Path) (m n : ℕ) (r : LitOut) → literal_operation op m n ≡ Some r → Step E (app (app (const op []) (lit m)) (lit n)) (literal_term r)

@@ -1,8 +1,12 @@
+ghost use Rattle.std.specs.Prelude.{◌≡◌, IfOk};
+
 use crate::expr::Expr;
-use crate::level::Level;
+use crate::memory::NoMemory;
 use crate::name::Name;
 use sqlite_items::Items;
+use std::alloc::Global;
 
+/// What a constant is declared as.
 #[derive(Clone, Copy, Debug, PartialEq, Eq)]
 pub enum ConstKind {
     Axiom,
@@ -13,6 +17,8 @@ pub enum ConstKind {
     Recursor,
 }
 
+/// What only inductive types, constructors and recursors have. `index` is the constructor's place in its
+/// type's list, and `rules` are the recursor's, one for each constructor.
 #[derive(Debug, Drop)]
 pub enum Detail {
     Plain,
@@ -37,6 +43,7 @@ pub enum Detail {
     },
 }
 
+/// A constant of an environment. `levels` are the names of its level parameters.
 #[derive(Debug, Drop)]
 pub struct ConstInfo {
     pub name: Name,
@@ -48,12 +55,14 @@ pub struct ConstInfo {
     pub detail: Detail,
 }
 
+/// A constructor as it is declared.
 #[derive(Debug, Drop)]
 pub struct CtorInfo {
     pub name: Name,
     pub ty: Expr,
 }
 
+/// An inductive type as it is declared, with `params` parameters.
 #[derive(Debug, Drop)]
 pub struct IndDecl {
     pub name: Name,
@@ -61,4 +70,168 @@ pub struct IndDecl {
     pub params: u32,
     pub ty: Expr,
     pub ctors: Items<CtorInfo>,
+}
+
+/// A part of the work on a text: the head or the body of the command at a position, or a realized constant.
+#[derive(Debug, Drop)]
+pub enum TaskKey {
+    Head(u32),
+    Body(u32),
+    Real(Name),
+}
+
+/// What a call with a budget answers: a value, a refusal, a spent budget, the task that has to be done first,
+/// a stop, or want of memory.
+#[derive(Debug, Drop)]
+pub enum Ans<T, F> {
+    Done(T),
+    Refused(F),
+    Out,
+    Need(TaskKey),
+    Stopped,
+    NoMemory,
+}
+
+/// A list equal to `names`.
+pub fn copy_names(alloc: Global, names: &[Name]) -> Result<Items<Name>, NoMemory>
+    ensures { IfOk result (λ all. all ≡ names.now) }
+{
+    let mut all = Items::new(alloc);
+    for name in names {
+        all.push(name.copy(alloc)?)?;
+    }
+    Ok(all)
+}
+
+/// A list equal to `terms`.
+pub fn copy_terms(alloc: Global, terms: &[Expr]) -> Result<Items<Expr>, NoMemory>
+    ensures { IfOk result (λ all. all ≡ terms.now) }
+{
+    let mut all = Items::new(alloc);
+    for term in terms {
+        all.push(term.copy(alloc)?)?;
+    }
+    Ok(all)
+}
+
+fn copy_ctors(alloc: Global, ctors: &[CtorInfo]) -> Result<Items<CtorInfo>, NoMemory>
+    ensures { IfOk result (λ all. all ≡ ctors.now) }
+{
+    let mut all = Items::new(alloc);
+    for ctor in ctors {
+        all.push(ctor.copy(alloc)?)?;
+    }
+    Ok(all)
+}
+
+fn copy_value(alloc: Global, value: &Option<Expr>) -> Result<Option<Expr>, NoMemory>
+    ensures { IfOk result (λ v. v ≡ value.now) }
+{
+    match value {
+        Some(term) => Ok(Some(term.copy(alloc)?)),
+        None => Ok(None),
+    }
+}
+
+impl Detail {
+    /// A copy equal to this.
+    pub fn copy(&self, alloc: Global) -> Result<Detail, NoMemory>
+        ensures { IfOk result (λ d. d ≡ self.now) }
+    {
+        match self {
+            Detail::Plain => Ok(Detail::Plain),
+            Detail::Ind {
+                params,
+                indices,
+                ctors,
+                large,
+            } => Ok(Detail::Ind {
+                params: *params,
+                indices: *indices,
+                ctors: copy_names(alloc, ctors.as_slice())?,
+                large: *large,
+            }),
+            Detail::Ctor {
+                ind,
+                index,
+                params,
+                fields,
+            } => Ok(Detail::Ctor {
+                ind: ind.copy(alloc)?,
+                index: *index,
+                params: *params,
+                fields: *fields,
+            }),
+            Detail::Rec {
+                ind,
+                params,
+                minors,
+                indices,
+                rules,
+            } => Ok(Detail::Rec {
+                ind: ind.copy(alloc)?,
+                params: *params,
+                minors: *minors,
+                indices: *indices,
+                rules: copy_terms(alloc, rules.as_slice())?,
+            }),
+        }
+    }
+}
+
+impl ConstInfo {
+    /// A copy equal to this.
+    pub fn copy(&self, alloc: Global) -> Result<ConstInfo, NoMemory>
+        ensures { IfOk result (λ c. c ≡ self.now) }
+    {
+        Ok(ConstInfo {
+            name: self.name.copy(alloc)?,
+            kind: self.kind,
+            levels: copy_names(alloc, self.levels.as_slice())?,
+            ty: self.ty.copy(alloc)?,
+            value: copy_value(alloc, &self.value)?,
+            height: self.height,
+            detail: self.detail.copy(alloc)?,
+        })
+    }
+}
+
+impl CtorInfo {
+    /// A copy equal to this.
+    pub fn copy(&self, alloc: Global) -> Result<CtorInfo, NoMemory>
+        ensures { IfOk result (λ c. c ≡ self.now) }
+    {
+        Ok(CtorInfo {
+            name: self.name.copy(alloc)?,
+            ty: self.ty.copy(alloc)?,
+        })
+    }
+}
+
+impl IndDecl {
+    /// A copy equal to this.
+    pub fn copy(&self, alloc: Global) -> Result<IndDecl, NoMemory>
+        ensures { IfOk result (λ d. d ≡ self.now) }
+    {
+        Ok(IndDecl {
+            name: self.name.copy(alloc)?,
+            levels: copy_names(alloc, self.levels.as_slice())?,
+            params: self.params,
+            ty: self.ty.copy(alloc)?,
+            ctors: copy_ctors(alloc, self.ctors.as_slice())?,
+        })
+    }
+}
+
+impl TaskKey {
+    /// A copy equal to this.
+    pub fn copy(&self, alloc: Global) -> Result<TaskKey, NoMemory>
+        ensures { IfOk result (λ k. k ≡ self.now) }
+    {
+        match self {
+            TaskKey::Head(at) => Ok(TaskKey::Head(*at)),
+            TaskKey::Body(at) => Ok(TaskKey::Body(*at)),
+            TaskKey::Real(name) => Ok(TaskKey::Real(name.copy(alloc)?)),
+        }
+    }
 }

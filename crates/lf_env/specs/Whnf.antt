@@ -5,8 +5,9 @@ use Rattle.lf_core.specs.Same.{same, same_path}
 use Rattle.lf_core.specs.Substitution.{instantiate, level_instantiate}
 use Rattle.lf_core.specs.Spine.{apply, head_of, arguments_of}
 use Rattle.lf_core.specs.Environment.{Context, nat_zero, nat_succ}
-use Rattle.lf_core.specs.Literal.{LiteralValue}
-use Rattle.lf_core.specs.Step.{operation_of, literal_term, by_rule}
+use Rattle.lf_core.specs.Literal.{operation_of, literal_operation}
+use Rattle.lf_core.specs.declared.literal.LitOut.{LitOut}
+use Rattle.lf_core.specs.Step.{literal_term, by_rule}
 use Rattle.lf_core.specs.Judgment.{result_level}
 use Rattle.lf_core.specs.declared.constant.Detail.{Detail}
 use Rattle.lf_core.specs.declared.constant.Detail.TheVariants.{Ind, Ctor, Rec}
@@ -140,12 +141,12 @@ as_number (lit n) = Some n
 as_number (const n ls) = if same (const n ls) nat_zero then Some 0 else None
 as_number _ = None
 
-abbrev pub operated : Option LiteralValue → Run Progress → Run Progress
+abbrev pub operated : Option LitOut → Run Progress → Run Progress
 operated (Some r) rest = gives (next (literal_term r))
 operated None rest = rest
 
 abbrev pub on_numbers : Path → Option ℕ → Option ℕ → Run Progress → Run Progress
-on_numbers n (Some i) (Some j) rest = operated (operation_of n i j) rest
+on_numbers n (Some i) (Some j) rest = operated (literal_operation n i j) rest
 on_numbers n _ _ rest = rest
 
 abbrev pub operands : Calls → Context → Path → Term → Term → Run Progress → Run Progress
@@ -154,14 +155,10 @@ operands c C n x y rest = do
   b ← c.whnf true C y
   on_numbers n (as_number a) (as_number b) rest
 
--- Each operation answers on 0 and 0.
-abbrev pub is_operation : Path → Bool
-is_operation n = is_some (operation_of n 0 0)
-
 -- An operation on two literals, the successor of a literal that stands there, and else the rest.
 abbrev pub literal_turn : Calls → Context → Path → List Universe → List Term → Run Progress → Run Progress
 literal_turn c C n [] (lit k ∷ []) rest = choose (same (const n []) nat_succ && nat_lt (suc k) (2 ^ 128)) (gives (ends (lit (suc k)))) rest
-literal_turn c C n [] (x ∷ y ∷ []) rest = choose (is_operation n) (operands c C n x y rest) rest
+literal_turn c C n [] (x ∷ y ∷ []) rest = choose (is_some (operation_of n)) (operands c C n x y rest) rest
 literal_turn c C n ls xs rest = rest
 
 -- ---- Turns.

@@ -3,7 +3,7 @@ use Rattle.std.proofs.Common.{◌≡◌, ◌<◌, ℕ, zero, suc, List, [], ◌�
 use Rattle.lf_core.specs.Term.{Path, Universe, level_zero, level_succ, level_imax, Term, bound, free, sort, const, app, lam, pi, lit}
 use Rattle.lf_core.specs.Scope.{Scoped}
 use Rattle.lf_core.specs.Environment.{Environment, nat, nat_type, nat_succ, Declared}
-use Rattle.lf_core.specs.Literal.{number}
+use Rattle.lf_core.specs.declared.literal.LitOut.TheVariants.{Nat}
 use Rattle.lf_core.specs.Step.{beta, delta, literal_succ, operation}
 use Rattle.lf_core.specs.Judgment.{Equal, symmetric, transitive, reflexive, applications, sorts, step, HasType, variable, sort_type, constant, application, lambda, pi_type, literal, conversion, has_type}
 use Rattle.lf_core.specs.Derived.{Checked, Stated, Derived, empty, with_axiom, with_value}
@@ -176,7 +176,7 @@ odd_equal =
     let p3 : Equal E [] (app (lam named nat_type truth) (lit 1)) truth = step (beta named nat_type truth (lit 1)) s2 (has_type (application q2 (literal 1))) in
     let p : Equal E [] (app (app (const add_name []) (lit 0)) (lit 1)) truth = transitive (applications (transitive (applications p1 (reflexive (lit 0))) p2) (reflexive (lit 1))) p3 in
     -- by the step of literals it is 1, the successor of 0, which is falsity
-    let r1 : Equal E [] (app (app (const add_name []) (lit 0)) (lit 1)) (lit 1) = step (operation add_name 0 1 (number 1) refl) ((tt, tt), tt) (has_type sum) in
+    let r1 : Equal E [] (app (app (const add_name []) (lit 0)) (lit 1)) (lit 1) = step (operation add_name 0 1 (Nat 1) refl) ((tt, tt), tt) (has_type sum) in
     let r2 : Equal E [] (lit 1) (app nat_succ (lit 0)) = step (literal_succ 0 (omega arith)) tt (has_type (literal 1)) in
     let r3 : Equal E [] nat_succ all_false = step (delta successor all_false [] (1, omega arith, refl) refl refl refl) tt (has_type next) in
     let s3 : Scoped 0 0 (app all_false (lit 0)) = ((tt, (tt, omega arith)), tt) in

@@ -5,7 +5,8 @@ use Rattle.lf_core.specs.Term.{Universe, Term, const}
 use Rattle.lf_core.specs.Substitution.{level_instantiate}
 use Rattle.lf_core.specs.Scope.{Scoped}
 use Rattle.lf_core.specs.Environment.{Environment, Context}
-use Rattle.lf_core.specs.Literal.{LiteralValue, number, truth}
+use Rattle.lf_core.specs.declared.literal.LitOut.{LitOut}
+use Rattle.lf_core.specs.declared.literal.LitOut.TheVariants.{Nat, Bool}
 use Rattle.lf_core.specs.Step.{Step, beta, zeta, delta, iota, literal_zero, literal_succ, operation, literal_term}
 use Rattle.lf_core.specs.Judgment.{Equal, reflexive, symmetric, transitive, applications, lambdas, pis, lets, sorts, constants, step, eta, proof_irrelevance, declared_irrelevance, HasType, variable, sort_type, constant, application, lambda, pi_type, let_type, literal, conversion}
 use Rattle.lf_core.specs.declared.constant.Detail.TheVariants.{Rec}
@@ -18,10 +19,10 @@ In C t = Scoped 0 (length C) t
 pub closed_at : (k : ℕ) (ls : List Universe) (t : Term) → Scoped 0 0 t → Scoped 0 k (level_instantiate ls t)
 closed_at k ls t h = scoped_levels 0 k ls t (scoped_up t zero-le zero-le h)
 
-value_scoped : (k : ℕ) (r : LiteralValue) → Scoped 0 k (literal_term r)
-value_scoped k (number n) = tt
-value_scoped k (truth true) = tt
-value_scoped k (truth false) = tt
+value_scoped : (k : ℕ) (r : LitOut) → Scoped 0 k (literal_term r)
+value_scoped k (Nat n) = tt
+value_scoped k (Bool true) = tt
+value_scoped k (Bool false) = tt
 
 pub step_scoped : (E : Environment) → EnvironmentClosed E → (k : ℕ) {a b : Term} → Step E a b → Scoped 0 k a → Scoped 0 k b
 step_scoped E cl k (beta x A b a) h = scoped_instantiate k b a h.0.1 h.1

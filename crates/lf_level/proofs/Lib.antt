@@ -1,0 +1,4 @@
+pub mod Collecting
+pub mod Regions
+pub mod Tests
+pub mod Decided

@@ -1,0 +1,10 @@
+//! The order of universe levels, under every assignment of their parameters.
+#![tactic(auto)]
+
+mod fault;
+mod order;
+mod parameters;
+mod value;
+
+pub use fault::LevelFault;
+pub use order::{leq, same, subst};
