@@ -6,10 +6,10 @@ pub mod ExprNode
 pub mod Same
 pub mod Level
 pub mod Substitution
+pub mod Literal
 pub mod Spine
 pub mod Scope
 pub mod Environment
-pub mod Literal
 pub mod Step
 pub mod Judgment
 pub mod Derived

@@ -6,18 +6,18 @@ use Rattle.lf_core.specs.Substitution.{instantiate, level_instantiate}
 use Rattle.lf_core.specs.Spine.{apply}
 use Rattle.lf_core.specs.Environment.{Environment, nat_zero, nat_succ}
 use Rattle.lf_core.specs.Literal.{literal_operation}
+use Rattle.lf_core.specs.declared.literal.LitOut.{LitOut}
+use Rattle.lf_core.specs.declared.literal.LitOut.TheVariants.{Nat, Bool}
 use Rattle.lf_core.specs.declared.binder.Binder.{Binder}
 use Rattle.lf_core.specs.declared.constant.ConstInfo.{ConstInfo}
 use Rattle.lf_core.specs.declared.constant.ConstKind.TheVariants.{Def}
 use Rattle.lf_core.specs.declared.constant.Detail.TheVariants.{Ctor, Rec}
-use Rattle.lf_core.specs.declared.literal.LitOut.{LitOut}
-use Rattle.lf_core.specs.declared.literal.LitOut.TheVariants as out
 
--- The term that stands for what an operation gives.
+-- The term that an operation on literals gives: a literal or a constructor of `Bool`.
 abbrev pub literal_term : LitOut → Term
-literal_term (out.Nat n) = lit n
-literal_term (out.Bool true) = const (codes "Bool" ∷ codes "true" ∷ []) []
-literal_term (out.Bool false) = const (codes "Bool" ∷ codes "false" ∷ []) []
+literal_term (Nat n) = lit n
+literal_term (Bool true) = const (codes "Bool" ∷ codes "true" ∷ []) []
+literal_term (Bool false) = const (codes "Bool" ∷ codes "false" ∷ []) []
 
 -- A recursor's rule at these levels, applied to the parameters, motive and minor premises of `before` and to the fields.
 abbrev pub by_rule : Term → List Universe → ℕ → List Term → List Term → Term

@@ -1,0 +1,11 @@
+use Rattle.std.proofs.Common.{◌≡◌, refl}
+use Rattle.lf_env.specs.LevelTest.{is_same}
+use Rattle.lf_env.specs.Whnf.{turn_limit, whnf_body}
+use Rattle.lf_env.specs.Infer.{infer_body}
+use Rattle.lf_env.specs.Equal.{equal_body}
+use Rattle.lf_env.specs.Normalize.{normalize_body}
+use Rattle.lf_checker_laws.specs.Worked.{Answers}
+
+pub answers : Answers
+unfolding is_same turn_limit whnf_body infer_body equal_body normalize_body
+answers = record { infer_prop = refl; infer_without_units = refl; whnf_beta = refl; whnf_too_few = refl; sum_of_literals = refl; stuck = refl }

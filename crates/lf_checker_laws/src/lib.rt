@@ -1,0 +1,17 @@
+//! Laws on the plain checker: each public function's contract is one of them.
+#![tactic(auto)]
+
+ghost use Rattle.lf_checker_laws.specs.Extension.{ExtensionLaw};
+ghost use Rattle.lf_checker_laws.specs.Worked.{Answers};
+
+/// Answers that are known from elsewhere.
+pub fn worked_answers()
+    ensures { Answers }
+{
+}
+
+/// What the checker answers on a view it answers on each view that extends it, units included.
+pub fn checker_is_extended()
+    ensures { ExtensionLaw }
+{
+}

@@ -1,0 +1,10 @@
+pub mod View
+pub mod Extends
+pub mod LevelTest
+pub mod Run
+pub mod Calls
+pub mod Whnf
+pub mod Infer
+pub mod Equal
+pub mod Normalize
+pub mod Checker

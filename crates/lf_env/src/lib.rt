@@ -1,0 +1,2 @@
+//! Views of an environment, and the plain checker as a definition.
+#![tactic(auto)]

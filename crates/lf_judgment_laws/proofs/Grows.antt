@@ -1,0 +1,122 @@
+-- Derivations over an environment hold over each that tells at least as much.
+use Rattle.std.proofs.Common.{◌≡◌, ◌+◌, ◌++◌, ℕ, List, Some, None, Contains, length, take, drop, slice_get, sym, ap, subst, ◌∙◌}
+use Rattle.lf_core.specs.Term.{Path, Universe, Term, bound, free, meta, sort, const, app, lam, pi, letin, lit}
+use Rattle.lf_core.specs.Substitution.{level_instantiate}
+use Rattle.lf_core.specs.Spine.{apply}
+use Rattle.lf_core.specs.Environment.{Environment, Context, Declared, nat, NamesDeclared}
+use Rattle.lf_core.specs.Step.{Step, beta, zeta, delta, iota, literal_zero, literal_succ, operation, by_rule}
+use Rattle.lf_core.specs.Judgment.{result_level, IsDeclaredProposition, Equal, reflexive, symmetric, transitive, applications, lambdas, pis, lets, sorts, constants, step, eta, proof_irrelevance, declared_irrelevance, HasType, variable, sort_type, constant, application, lambda, pi_type, let_type, literal, conversion, Formed, has_type, is_type, equal_to, function, argument, lambda_domain, lambda_body, pi_domain, pi_codomain}
+use Rattle.lf_core.specs.declared.constant.ConstInfo.{ConstInfo}
+use Rattle.lf_judgment_laws.specs.Growth.{Tells, Grows, Holds}
+
+grow_step : (E F : Environment) → Grows E F → {a b : Term} → Step E a b → Step F a b
+grow_step E F g (beta x A b a) = beta x A b a
+grow_step E F g (zeta x A v b) = zeta x A v b
+grow_step E F g (delta c v ls w q e l) =
+    let r = g c w in
+    let t : Tells c r.0 = r.2 in
+    subst (λ n. Step F (const n ls) (level_instantiate ls v)) (sym t.name) (delta r.0 v ls r.1 (sym t.kind ∙ q) (t.value v e) (l ∙ ap (λ ns. length ns) t.levels))
+grow_step E F g (iota c d ind params minors indices index own fields rules rule ls ms before ys wc qc l n wd qd e m) =
+    let r = g c wc in
+    let t : Tells c r.0 = r.2 in
+    let r' = g d wd in
+    let t' : Tells d r'.0 = r'.2 in
+    let s = iota r.0 r'.0 ind params minors indices index own fields rules rule ls ms before ys r.1 (sym t.detail ∙ qc) (l ∙ ap (λ ns. length ns) t.levels) n r'.1 (sym t'.detail ∙ qd) e m in
+    let s' = subst (λ j. Step F (app (apply (const j ls) before) (apply (const r'.0.name ms) ys)) (by_rule rule ls (params + 1 + minors) before (drop own ys))) (sym t.name) s in
+    subst (λ j. Step F (app (apply (const c.name ls) before) (apply (const j ms) ys)) (by_rule rule ls (params + 1 + minors) before (drop own ys))) (sym t'.name) s'
+grow_step E F g literal_zero = literal_zero
+grow_step E F g (literal_succ n b) = literal_succ n b
+grow_step E F g (operation op m n r q) = operation op m n r q
+
+grow_proposition : (E F : Environment) → Grows E F → {P : Term} → IsDeclaredProposition E P → IsDeclaredProposition F P
+grow_proposition E F g p =
+    let r = g p.type p.within in
+    let t : Tells p.type r.0 = r.2 in
+    record {
+      type = r.0;
+      result = p.result;
+      params = p.params;
+      indices = p.indices;
+      constructors = p.constructors;
+      large = p.large;
+      levels = p.levels;
+      arguments = p.arguments;
+      within = r.1;
+      detail = sym t.detail ∙ p.detail;
+      declared = sym (ap result_level t.ty) ∙ p.declared;
+      in_prop = p.in_prop;
+      whole = p.whole;
+      form = p.form ∙ ap (λ n. apply (const n p.levels) p.arguments) t.name;
+    }
+
+grow_constant : (E F : Environment) → Grows E F → {C : Context} (c : ConstInfo) (ls : List Universe) → Contains E c → length ls ≡ length c.levels → HasType F C (const c.name ls) (level_instantiate ls c.ty)
+grow_constant E F g {C = C} c ls w l =
+    let r = g c w in
+    let t : Tells c r.0 = r.2 in
+    let h : HasType F C (const r.0.name ls) (level_instantiate ls r.0.ty) = constant r.0 ls r.1 (l ∙ ap (λ ns. length ns) t.levels) in
+    let h' : HasType F C (const c.name ls) (level_instantiate ls r.0.ty) = subst (λ n. HasType F C (const n ls) (level_instantiate ls r.0.ty)) (sym t.name) h in
+    subst (λ A. HasType F C (const c.name ls) (level_instantiate ls A)) (sym t.ty) h'
+
+mutual
+  grow_equal : (E F : Environment) → Grows E F → {C : Context} {a b : Term} → Equal E C a b → Equal F C a b
+  grow_equal E F g (reflexive a) = reflexive a
+  grow_equal E F g (symmetric p) = symmetric (grow_equal E F g p)
+  grow_equal E F g (transitive p q) = transitive (grow_equal E F g p) (grow_equal E F g q)
+  grow_equal E F g (applications p q) = applications (grow_equal E F g p) (grow_equal E F g q)
+  grow_equal E F g (lambdas f p s r q) = lambdas (grow_formed E F g f) (grow_equal E F g p) s r (grow_equal E F g q)
+  grow_equal E F g (pis f p s r q) = pis (grow_formed E F g f) (grow_equal E F g p) s r (grow_equal E F g q)
+  grow_equal E F g (lets f h p v s r q) = lets (grow_formed E F g f) (grow_formed E F g h) (grow_equal E F g p) (grow_equal E F g v) s r (grow_equal E F g q)
+  grow_equal E F g (sorts p) = sorts p
+  grow_equal E F g (constants c p) = constants c p
+  grow_equal E F g (step p s f) = step (grow_step E F g p) s (grow_formed E F g f)
+  grow_equal E F g (eta t) = eta (grow_type E F g t)
+  grow_equal E F g (proof_irrelevance a b p) = proof_irrelevance (grow_type E F g a) (grow_type E F g b) (grow_type E F g p)
+  grow_equal E F g (declared_irrelevance a b p) = declared_irrelevance (grow_type E F g a) (grow_type E F g b) (grow_proposition E F g p)
+
+  grow_type : (E F : Environment) → Grows E F → {C : Context} {t A : Term} → HasType E C t A → HasType F C t A
+  grow_type E F g (variable k e) = variable k e
+  grow_type E F g (sort_type l) = sort_type l
+  grow_type E F g (constant c ls w l) = grow_constant E F g c ls w l
+  grow_type E F g (application f a) = application (grow_type E F g f) (grow_type E F g a)
+  grow_type E F g (lambda u a s r b) = lambda u (grow_type E F g a) s r (grow_type E F g b)
+  grow_type E F g (pi_type u v a s b) = pi_type u v (grow_type E F g a) s (grow_type E F g b)
+  grow_type E F g (let_type u a v s b) = let_type u (grow_type E F g a) (grow_type E F g v) s (grow_type E F g b)
+  grow_type E F g (literal n) = literal n
+  grow_type E F g (conversion t p) = conversion (grow_type E F g t) (grow_equal E F g p)
+
+  grow_formed : (E F : Environment) → Grows E F → {C : Context} {t : Term} → Formed E C t → Formed F C t
+  grow_formed E F g (has_type h) = has_type (grow_type E F g h)
+  grow_formed E F g (is_type h) = is_type (grow_type E F g h)
+  grow_formed E F g (equal_to f p) = equal_to (grow_formed E F g f) (grow_equal E F g p)
+  grow_formed E F g (function f) = function (grow_formed E F g f)
+  grow_formed E F g (argument f) = argument (grow_formed E F g f)
+  grow_formed E F g (lambda_domain f) = lambda_domain (grow_formed E F g f)
+  grow_formed E F g (lambda_body f) = lambda_body (grow_formed E F g f)
+  grow_formed E F g (pi_domain f) = pi_domain (grow_formed E F g f)
+  grow_formed E F g (pi_codomain f) = pi_codomain (grow_formed E F g f)
+
+grow_declared : (E F : Environment) → Grows E F → (n : Path) → Declared E n → Declared F n
+grow_declared E F g n (c, w, e) =
+    let r = g c w in
+    let t : Tells c r.0 = r.2 in
+    (r.0, r.1, sym t.name ∙ e)
+
+grow_names : (E F : Environment) → Grows E F → (t : Term) → NamesDeclared E t → NamesDeclared F t
+grow_names E F g (bound i) h = tt
+grow_names E F g (free k) h = tt
+grow_names E F g (meta k) h = tt
+grow_names E F g (sort l) h = tt
+grow_names E F g (const n ls) h = grow_declared E F g n h
+grow_names E F g (app f a) h = (grow_names E F g f h.0, grow_names E F g a h.1)
+grow_names E F g (lam x A b) h = (grow_names E F g A h.0, grow_names E F g b h.1)
+grow_names E F g (pi x A B) h = (grow_names E F g A h.0, grow_names E F g B h.1)
+grow_names E F g (letin x A v b) h = (grow_names E F g A h.0, grow_names E F g v h.1, grow_names E F g b h.2)
+grow_names E F g (lit n) h = grow_declared E F g nat h
+
+pub relations_grow : (E F : Environment) → Grows E F → Holds E F
+relations_grow E F g = record {
+  equal = λ C a b h. grow_equal E F g h;
+  typed = λ C t A h. grow_type E F g h;
+  formed = λ C t h. grow_formed E F g h;
+  named = λ t h. grow_names E F g t h;
+}

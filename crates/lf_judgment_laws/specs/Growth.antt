@@ -1,0 +1,27 @@
+-- What holds over an environment holds over each that tells at least as much.
+use Rattle.std.specs.Prelude.{◌≡◌, Some, Contains}
+use Rattle.lf_core.specs.Term.{Term}
+use Rattle.lf_core.specs.Environment.{Environment, Context, NamesDeclared}
+use Rattle.lf_core.specs.Judgment.{Equal, HasType, Formed}
+use Rattle.lf_core.specs.declared.constant.ConstInfo.{ConstInfo}
+
+-- The second constant is the first, or the first with its value.
+pub record Tells (c d : ConstInfo) : Type 0 where
+  pub name : c.name ≡ d.name
+  pub kind : c.kind ≡ d.kind
+  pub levels : c.levels ≡ d.levels
+  pub ty : c.ty ≡ d.ty
+  pub detail : c.detail ≡ d.detail
+  pub value : (v : Term) → c.value ≡ Some v → d.value ≡ Some v
+
+abbrev pub Grows : Environment → Environment → Type 0
+Grows E F = (c : ConstInfo) → Contains E c → (d : ConstInfo) × Contains F d × Tells c d
+
+pub record Holds (E F : Environment) : Type 0 where
+  pub equal : (C : Context) (a b : Term) → Equal E C a b → Equal F C a b
+  pub typed : (C : Context) (t A : Term) → HasType E C t A → HasType F C t A
+  pub formed : (C : Context) (t : Term) → Formed E C t → Formed F C t
+  pub named : (t : Term) → NamesDeclared E t → NamesDeclared F t
+
+abbrev pub RelationsGrow : Type 0
+RelationsGrow = (E F : Environment) → Grows E F → Holds E F

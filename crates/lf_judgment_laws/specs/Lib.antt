@@ -1,0 +1,6 @@
+pub mod InScope
+pub mod Growth
+pub mod Loose
+pub mod Untyped
+pub mod Names
+pub mod Pure
