@@ -2,3 +2,8 @@ pub mod Lexemes
 pub mod Scan
 pub mod Grammar
 pub mod Parser
+pub mod Declares
+pub mod Reader
+pub mod Report
+pub mod Meaning
+pub mod Runs

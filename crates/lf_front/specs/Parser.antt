@@ -111,6 +111,14 @@ abbrev pub identified : Option (Path × List Token) → Option (Path × List Tok
 identified (Some p) = named_head p.0 (after_colon p.1)
 identified None = None
 
+abbrev pub colon_behind : Path → Option (List Token) → Option (Path × List Token)
+colon_behind x (Some ts) = Some (x, ts)
+colon_behind x None = None
+
+abbrev pub identified_axiom : Option (Path × List Token) → Option (Path × List Token)
+identified_axiom (Some p) = colon_behind p.0 (after_colon p.1)
+identified_axiom None = None
+
 -- The name behind a `(`, and the tokens behind its colon.
 abbrev pub group_head : Option (List Token) → Option (Path × List Token)
 group_head (Some ts) = identified (after_identifier ts)

@@ -1,6 +1,10 @@
 //! The top call: from the words of the command line and a text to the report.
 #![tactic(auto)]
 
+mod axioms;
 mod names;
 mod parse;
+mod report;
+mod status;
 mod token;
+pub use status::Status;

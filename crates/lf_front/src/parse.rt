@@ -28,7 +28,7 @@ fn after_close(tokens: &[Token]) -> Option<&[Token]>
     }
 }
 
-fn after_colon(tokens: &[Token]) -> Option<&[Token]>
+pub(crate) fn after_colon(tokens: &[Token]) -> Option<&[Token]>
     ensures { IsRest result (parser.after_colon tokens.now) }
 {
     match tokens {
@@ -148,7 +148,7 @@ fn after_group(tokens: &[Token]) -> Option<&[Token]>
     }
 }
 
-fn after_identifier(tokens: &[Token]) -> Option<(&Name, &[Token])>
+pub(crate) fn after_identifier(tokens: &[Token]) -> Option<(&Name, &[Token])>
     ensures { IsHead result (parser.after_identifier tokens.now) }
 {
     match tokens {
