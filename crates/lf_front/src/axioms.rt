@@ -165,7 +165,8 @@ fn keep(constants: &mut Items<ConstInfo>, constant: ConstInfo) -> Result<(), NoM
 
 /// The axioms that the tokens declare.
 pub(crate) fn axioms(alloc: Global, tokens: &[Token]) -> Result<Items<ConstInfo>, Refusal>
-    ensures { ReadsAll tokens.now result }
+    ensures reads { ReadsAll tokens.now result }
+    ensures shallow { IfOk result (All IsShallow) }
 {
     let mut constants = Items::new(alloc);
     let mut rest = tokens;

@@ -89,3 +89,87 @@ fn inside(alloc: Global, name: &Name, names: &[Name]) -> Result<Items<Name>, NoM
     }
     Ok(all)
 }
+
+/// Writes a term at a place that asks for this level, under binders of these names, the innermost first.
+#[cycle(print)]
+fn print(
+    alloc: Global,
+    out: &mut Vec<u8>,
+    level: u32,
+    names: &[Name],
+    term: &Expr,
+) -> Result<(), NoMemory>
+    requires { size.depth term.now ≤ 1024 }
+    ensures { OnOk result (out.new.items ≡ out.old.items ++ spec.printed level names.now term.now) }
+{
+    match term.node() {
+        ExprNode::Bound(i) => push_variable(out, names, *i),
+        ExprNode::Sort(l) => match number_of(l) {
+            Some(n) => push_sort(alloc, out, n),
+            None => Err(NoMemory),
+        },
+        ExprNode::Const(name, _) => push_name(out, name),
+        ExprNode::Pi(x, domain, body) => {
+            if level > 25 {
+                push(out, b"(")?;
+                print_pi(alloc, out, names, &x.name, domain, body)?;
+                return push(out, b")");
+            }
+            print_pi(alloc, out, names, &x.name, domain, body)
+        }
+        _ => push(out, b"?"),
+    }
+}
+
+#[cycle(print)]
+fn print_pi(
+    alloc: Global,
+    out: &mut Vec<u8>,
+    names: &[Name],
+    name: &Name,
+    domain: &Expr,
+    body: &Expr,
+) -> Result<(), NoMemory>
+    requires domain { size.depth domain.now < 1024 }
+    requires body { size.depth body.now < 1024 }
+    ensures { OnOk result (out.new.items ≡ out.old.items ++ spec.pi_text (spec.is_used 0 body.now) name.now
+        (spec.printed 0 names.now domain.now) (spec.printed 0 (name.now ∷ names.now) body.now)
+        (spec.printed 26 names.now domain.now) (spec.printed 25 (name.now ∷ names.now) body.now)) }
+{
+    let inner = inside(alloc, name, names)?;
+    if is_used(0, body) {
+        push(out, "∀ (".as_bytes())?;
+        push_name(out, name)?;
+        push(out, b" : ")?;
+        print(alloc, out, 0, names, domain)?;
+        push(out, b"), ")?;
+        return print(alloc, out, 0, inner.as_slice(), body);
+    }
+    print(alloc, out, 26, names, domain)?;
+    push(out, " → ".as_bytes())?;
+    print(alloc, out, 25, inner.as_slice(), body)
+}
+
+fn push_line(alloc: Global, out: &mut Vec<u8>, constant: &ConstInfo) -> Result<(), NoMemory>
+    requires { IsShallow constant.now }
+    ensures { OnOk result (out.new.items ≡ out.old.items ++ spec.line_of constant.now) }
+{
+    push(out, b"axiom ")?;
+    push_name(out, &constant.name)?;
+    push(out, b" : ")?;
+    print(alloc, out, 0, &[], &constant.ty)?;
+    push(out, b"\n")
+}
+
+/// The report of these axioms.
+pub(crate) fn report_of(alloc: Global, constants: &[ConstInfo]) -> Result<Vec<u8>, NoMemory>
+    requires { All IsShallow constants.now }
+    ensures { IfOk result (λ text. text.items ≡ spec.report_of constants.now) }
+{
+    let mut out = Vec::new(alloc);
+    for constant in constants {
+        push_line(alloc, &mut out, constant)?;
+    }
+    push(&mut out, b"0 errors, 0 warnings\n")?;
+    Ok(out)
+}

@@ -4,11 +4,11 @@ use Rattle.lf_check.specs.Answers.{IsShallow}
 use Rattle.lf_front.proofs.Declaring.{Forward, Backward, no_tokens, refused_at, read_at, ended, forward_step, backward_step, shallow_step, shorter}
 use Rattle.lf_front.proofs.axioms.axioms.Goals as goal
 
-pub returns : goal.returns
-returns c = ended c.args.tokens.now c.axioms.constants c.axioms.rest.now c.axioms.invariant.forward (no_tokens c.axioms.rest.now (sym c.axioms-test.ensures))
+pub returns-clause-reads : goal.returns-clause-reads
+returns-clause-reads c = ended c.args.tokens.now c.axioms.constants c.axioms.rest.now c.axioms.invariant.forward (no_tokens c.axioms.rest.now (sym c.axioms-test.ensures))
 
-pub returns-in-Err : goal.returns-in-Err
-returns-in-Err c =
+pub returns-in-Err-clause-reads : goal.returns-in-Err-clause-reads
+returns-in-Err-clause-reads c =
     refused_at c.args.tokens.now c.axioms.constants c.as_slice.result.now c.axioms.rest.now c.in-Err.refusal c.axioms.invariant.backward c.as_slice.ensures c.in-Err.ensures (sym c.axioms-test.ensures)
 
 pub axioms-smaller : goal.axioms-smaller
