@@ -166,3 +166,15 @@ refused_at tokens E D ts r f same e some = refused_all tokens E ts r f (subst (�
 
 pub read_at : (E D : Environment) (ts : List Token) (o : One) → D ≡ E → axiom_at D ts ≡ o → axiom_at E ts ≡ o
 read_at E D ts o same e = subst (λ (F : Environment). axiom_at F ts ≡ o) same e
+
+-- Tokens declare one list of axioms.
+pub declares_one : (E : Environment) (ts : List Token) (cs ds : Environment) → Declares E ts cs → Declares E ts ds → cs ≡ ds
+declares_one E ts [] [] a b = refl
+declares_one E ts [] (d ∷ ds) a b = let none : axiom_at E ts ≡ None = rw a refl in let some = one_complete E ts d b.0 b.1 in cc
+declares_one E ts (c ∷ cs) [] a b = let none : axiom_at E ts ≡ None = rw b refl in let some = one_complete E ts c a.0 a.1 in cc
+declares_one E ts (c ∷ cs) (d ∷ ds) a b =
+    let both : one_of c a.0 ≡ one_of d b.0 = sym (one_complete E ts c a.0 a.1) ∙ one_complete E ts d b.0 b.1 in
+    let first : c ≡ d = same_constant c d a.0 b.0 both in
+    let behind : a.0 ≡ b.0 = same_rest c d a.0 b.0 both in
+    let tail : Declares (E ++ c ∷ []) a.0 ds = subst (λ (us : List Token). Declares (E ++ c ∷ []) us ds) (sym behind) (subst (λ (x : ConstInfo). Declares (E ++ x ∷ []) b.0 ds) (sym first) b.2) in
+    let rest : cs ≡ ds = declares_one (E ++ c ∷ []) a.0 cs ds a.2 tail in λ i. first i ∷ rest i

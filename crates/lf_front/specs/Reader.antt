@@ -1,5 +1,6 @@
 -- Reading a text of axioms, test by test.
-use Rattle.std.specs.Prelude.{◌≡◌, ◌++◌, nat_le, Bool, true, false, if◌then◌else◌, Option, Some, None, Result, Ok, Err, List, [], ◌∷◌}
+use Rattle.std.specs.Prelude.{◌≡◌, ℕ, ◌++◌, nat_le, Bool, true, false, if◌then◌else◌, Option, Some, None, Result, Ok, Err, List, [], ◌∷◌, codes}
+use Rattle.std.specs.Str.{bytes_eq}
 use Rattle.std.specs.Borrow.{Bor}
 use Rattle.lf_core.specs.Term.{Path, Term, sort}
 use Rattle.lf_core.specs.Size.{depth}
@@ -12,7 +13,8 @@ use Rattle.lf_front.specs.declared.names.Refusal.{Refusal}
 use Rattle.lf_front.specs.declared.names.Refusal.TheVariants.{NotBuilt, NoMemory}
 use Rattle.lf_front.specs.Grammar.{is_declared}
 use Rattle.lf_front.specs.Parser.{Parse, term, after_identifier, identified_axiom}
-use Rattle.lf_front.specs.Declares.{Declares, nesting, axiom_of}
+use Rattle.lf_front.specs.Declares.{Accepts, Declares, nesting, axiom_of}
+use Rattle.lf_front.specs.Report.{report_of}
 
 -- An axiom and the tokens behind it.
 abbrev pub One : Type 0
@@ -61,3 +63,17 @@ abbrev pub ReadsAll : List Token → Result Environment Refusal → Type 0
 ReadsAll ts (Ok E) = Declares [] ts E
 ReadsAll ts (Err NotBuilt) = (E : Environment) → Declares [] ts E → ⊥
 ReadsAll ts (Err NoMemory) = Unit {0}
+
+-- The report of an accepted text.
+abbrev pub Reports : List ℕ → List ℕ → Type 0
+Reports bytes text = (axioms : Environment) × Accepts bytes axioms × (text ≡ report_of axioms)
+
+-- Why a text has none: it isn't accepted.
+abbrev pub Refuses : List ℕ → Refusal → Type 0
+Refuses bytes NotBuilt = (axioms : Environment) → Accepts bytes axioms → ⊥
+Refuses bytes NoMemory = Unit {0}
+
+-- Whether the words are two and the second is `check`.
+abbrev pub asks : List (List ℕ) → Bool
+asks (name ∷ word ∷ []) = bytes_eq word (codes "check")
+asks _ = false

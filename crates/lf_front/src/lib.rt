@@ -5,6 +5,8 @@ mod axioms;
 mod names;
 mod parse;
 mod report;
+mod serial;
 mod status;
 mod token;
 pub use status::Status;
+pub use serial::run_serial;
