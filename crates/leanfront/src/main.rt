@@ -2,19 +2,29 @@
 #![tactic(auto)]
 
 use lf_base::{StdSink, StdSource};
-use lf_front::run_serial;
+use lf_front::{Status, run_serial};
+use std::env;
+use std::io::{self, ErrorKind};
 use std::process::ExitCode;
 
-fn main(rt: HostRuntime) -> ExitCode {
+/// The words of the command line. A word that isn't UTF-8 makes a faulty command line, which has none.
+fn words(rt: &HostRuntime) -> io::Result<Vec<String>> {
     let alloc = rt.alloc();
+    match env::args(rt) {
+        Ok(args) => Ok(args.collect(alloc)?),
+        Err(error) => match error.kind() {
+            ErrorKind::OutOfMemory => Err(error),
+            _ => Ok(Vec::new(alloc)),
+        },
+    }
+}
+
+fn main(rt: HostRuntime) -> ExitCode {
     let mut src = StdSource::new(rt.stdin());
     let mut out = StdSink::new(rt.stdout());
-    let mut words = Vec::new(alloc);
-    for word in rt.args() {
-        if words.push(word).is_err() {
-            return ExitCode::from(5);
-        }
-    }
-    let status = run_serial(alloc, words.as_slice(), &mut src, &mut out);
+    let status = match words(&rt) {
+        Ok(words) => run_serial(rt.alloc(), words.as_slice(), &mut src, &mut out),
+        Err(_) => Status::NoMemory,
+    };
     ExitCode::from(status.code())
 }

@@ -112,8 +112,8 @@ one_derived E ts c rest derived one =
     let plain = spelled_plain one.spelled in
     let typed : HasType E [] one.type (sort one.level) = typed_by E [] [] one.type (sort one.level) refl one.typed plain.scoped in
     subst (λ (d : ConstInfo). Derived (E ++ d ∷ [])) (sym one.constant)
-      (with_axiom (axiom_of one.name one.type) derived
-        (record { fresh = fresh_by E one.name one.new; plain = refl; level = one.level; type = record { typed = typed; named = plain.named; levels = plain.levels } }) refl refl)
+    (with_axiom (axiom_of one.name one.type) derived
+    (record { fresh = fresh_by E one.name one.new; plain = refl; level = one.level; type = record { typed = typed; named = plain.named; levels = plain.levels } }) refl refl)
 
 pub declares_derived : (E : Environment) (ts : List Token) (cs : Environment) → Derived E → Declares E ts cs → Derived (E ++ cs)
 declares_derived E ts [] derived d = rw (append-nil E) derived

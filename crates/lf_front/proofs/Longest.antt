@@ -165,19 +165,19 @@ symbol_bound : (cs : List ℕ) (m : ℕ) → m ≤ length cs → is_symbol (take
 symbol_bound cs m l e =
     ⊎_elim
     (λ (one : (length (take m cs) == 1) ≡ true).
-      let low : 1 ≤ symbol_len cs = one_at_least cs _ _ refl refl in
-      let is : length (take m cs) ≡ 1 = eqb-true (length (take m cs)) 1 one in
-      let long : length (take m cs) ≡ m = length-take-le m cs l in omega arith)
+    let low : 1 ≤ symbol_len cs = one_at_least cs _ _ refl refl in
+    let is : length (take m cs) ≡ 1 = eqb-true (length (take m cs)) 1 one in
+    let long : length (take m cs) ≡ m = length-take-le m cs l in omega arith)
     (λ (more : bytes_eq (take m cs) arrow || (bytes_eq (take m cs) for_all || bytes_eq (take m cs) (codes "->")) ≡ true). ⊎_elim
-      (λ (a : bytes_eq (take m cs) arrow ≡ true). let three : m ≡ 3 = same_length m cs arrow l a in
-        let full : symbol_len cs ≡ 3 = three_when cs (or_left (bytes_eq (take 3 cs) arrow) (bytes_eq (take 3 cs) for_all) (rw three at a)) in omega arith)
-      (λ (rest : bytes_eq (take m cs) for_all || bytes_eq (take m cs) (codes "->") ≡ true). ⊎_elim
-        (λ (a : bytes_eq (take m cs) for_all ≡ true). let three : m ≡ 3 = same_length m cs for_all l a in
-          let full : symbol_len cs ≡ 3 = three_when cs (or_right (bytes_eq (take 3 cs) arrow) (bytes_eq (take 3 cs) for_all) (rw three at a)) in omega arith)
-        (λ (a : bytes_eq (take m cs) (codes "->") ≡ true). let two : m ≡ 2 = same_length m cs (codes "->") l a in
-          let full : 2 ≤ symbol_len cs = two_at_least cs _ _ refl refl (rw two at a) in omega arith)
-        (or_cases (bytes_eq (take m cs) for_all) (bytes_eq (take m cs) (codes "->")) rest))
-      (or_cases (bytes_eq (take m cs) arrow) (bytes_eq (take m cs) for_all || bytes_eq (take m cs) (codes "->")) more))
+    (λ (a : bytes_eq (take m cs) arrow ≡ true). let three : m ≡ 3 = same_length m cs arrow l a in
+    let full : symbol_len cs ≡ 3 = three_when cs (or_left (bytes_eq (take 3 cs) arrow) (bytes_eq (take 3 cs) for_all) (rw three at a)) in omega arith)
+    (λ (rest : bytes_eq (take m cs) for_all || bytes_eq (take m cs) (codes "->") ≡ true). ⊎_elim
+    (λ (a : bytes_eq (take m cs) for_all ≡ true). let three : m ≡ 3 = same_length m cs for_all l a in
+    let full : symbol_len cs ≡ 3 = three_when cs (or_right (bytes_eq (take 3 cs) arrow) (bytes_eq (take 3 cs) for_all) (rw three at a)) in omega arith)
+    (λ (a : bytes_eq (take m cs) (codes "->") ≡ true). let two : m ≡ 2 = same_length m cs (codes "->") l a in
+    let full : 2 ≤ symbol_len cs = two_at_least cs _ _ refl refl (rw two at a) in omega arith)
+    (or_cases (bytes_eq (take m cs) for_all) (bytes_eq (take m cs) (codes "->")) rest))
+    (or_cases (bytes_eq (take m cs) arrow) (bytes_eq (take m cs) for_all || bytes_eq (take m cs) (codes "->")) more))
     (or_cases (length (take m cs) == 1) (bytes_eq (take m cs) arrow || (bytes_eq (take m cs) for_all || bytes_eq (take m cs) (codes "->"))) e)
 
 long_passes : (a b d : Bool) → a || b ≡ true → a || (b || d) ≡ true

@@ -56,15 +56,15 @@ is_lexeme (c ∷ cs) = if starts c then is_tail cs else (if is_digit c then list
 -- Words that are no identifiers: those that begin a command, those that begin a command which isn't there, and the others.
 abbrev pub command_words : List (List ℕ)
 command_words = codes "axiom" ∷ codes "def" ∷ codes "theorem" ∷ codes "inductive" ∷ codes "namespace" ∷ codes "section" ∷ codes "end" ∷ codes "open"
-  ∷ codes "universe" ∷ codes "variable" ∷ []
+    ∷ codes "universe" ∷ codes "variable" ∷ []
 
 abbrev pub left_out_words : List (List ℕ)
 left_out_words = codes "abbrev" ∷ codes "attribute" ∷ codes "class" ∷ codes "deriving" ∷ codes "example" ∷ codes "import" ∷ codes "instance" ∷ codes "macro"
-  ∷ codes "mutual" ∷ codes "noncomputable" ∷ []
+    ∷ codes "mutual" ∷ codes "noncomputable" ∷ []
 
 abbrev pub more_left_out_words : List (List ℕ)
 more_left_out_words = codes "notation" ∷ codes "opaque" ∷ codes "partial" ∷ codes "private" ∷ codes "protected" ∷ codes "set_option" ∷ codes "structure"
-  ∷ codes "syntax" ∷ codes "unsafe" ∷ []
+    ∷ codes "syntax" ∷ codes "unsafe" ∷ []
 
 abbrev pub other_words : List (List ℕ)
 other_words = codes "fun" ∷ codes "let" ∷ codes "by" ∷ codes "where" ∷ codes "sorry" ∷ codes "_" ∷ []

@@ -8,5 +8,9 @@ mod report;
 mod serial;
 mod status;
 mod token;
-pub use status::Status;
+
 pub use serial::run_serial;
+pub use status::Status;
+
+#[cfg(test)]
+mod tests;

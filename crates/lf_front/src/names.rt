@@ -75,13 +75,7 @@ fn innermost(x: &Name, locals: &[Local]) -> Option<usize>
         [y, ys @ ..] => match innermost(x, ys) {
             Some(i) => Some(i),
             None => match y {
-                Local::Named(name) => {
-                    if x.is(name) {
-                        Some(ys.len())
-                    } else {
-                        None
-                    }
-                }
+                Local::Named(name) => { if x.is(name) { Some(ys.len()) } else { None } }
                 Local::Unnamed => None,
             },
         },

@@ -36,16 +36,17 @@ fn document(alloc: Global, text: &[u8]) -> Result<Vec<u8>, Refusal>
     }
 }
 
-fn check<S: Source, K: Sink>(
-    alloc: Global,
-    words: &[String],
-    src: &mut S,
-    out: &mut K,
-) -> Status
+fn check<S: Source, K: Sink>(alloc: Global, words: &[String], src: &mut S, out: &mut K) -> Status
     requires { asks (map string_bytes words.now) ≡ true }
     ensures { RunGives (Means (map string_bytes words.now))
-        (record { left = S.left src.old; left' = S.left src.new; source_rose = rose (S.faults src.old) (S.faults src.new);
-          held = K.held out.old; held' = K.held out.new; sink_rose = rose (K.faults out.old) (K.faults out.new) }) result }
+        (record {
+          left = S.left src.old;
+          left' = S.left src.new;
+          source_rose = rose (S.faults src.old) (S.faults src.new);
+          held = K.held out.old;
+          held' = K.held out.new;
+          sink_rose = rose (K.faults out.old) (K.faults out.new);
+        }) result }
 {
     let text = match read_all(alloc, src, 1_048_576) {
         ReadAll::Whole(text) => text,
@@ -80,8 +81,14 @@ pub fn run_serial<S: Source, K: Sink>(
 ) -> Status
     // The bytes and the status are those that the words and the bytes mean; each other answer has its cause.
     ensures gives { RunGives (Means (map string_bytes words.now))
-        (record { left = S.left src.old; left' = S.left src.new; source_rose = rose (S.faults src.old) (S.faults src.new);
-          held = K.held out.old; held' = K.held out.new; sink_rose = rose (K.faults out.old) (K.faults out.new) }) result }
+        (record {
+          left = S.left src.old;
+          left' = S.left src.new;
+          source_rose = rose (S.faults src.old) (S.faults src.new);
+          held = K.held out.old;
+          held' = K.held out.new;
+          sink_rose = rose (K.faults out.old) (K.faults out.new);
+        }) result }
     // Words and bytes mean one text and one status.
     ensures one { (bytes text other : List ℕ) (s t : StatusValue) → Means (map string_bytes words.now) bytes text s
         → Means (map string_bytes words.now) bytes other t → (text ≡ other) × (s ≡ t) }

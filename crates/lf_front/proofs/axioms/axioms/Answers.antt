@@ -20,7 +20,7 @@ axioms-preserved c =
     let kept = c.in_ok-keep-in-Ok.ensures in record {
       shallow = subst (All IsShallow) (sym kept) (shallow_step c.axioms.constants c.axioms.rest.now c.in-Ok.constant c.in-Ok.behind.now c.axioms.invariant.shallow read);
       forward = subst (λ (E : Environment). Forward c.args.tokens.now E c.in-Ok.behind.now) (sym kept)
-        (forward_step c.args.tokens.now c.axioms.constants c.axioms.rest.now c.in-Ok.constant c.in-Ok.behind.now c.axioms.invariant.forward read);
+          (forward_step c.args.tokens.now c.axioms.constants c.axioms.rest.now c.in-Ok.constant c.in-Ok.behind.now c.axioms.invariant.forward read);
       backward = subst (λ (E : Environment). Backward c.args.tokens.now E c.in-Ok.behind.now) (sym kept)
-        (backward_step c.args.tokens.now c.axioms.constants c.axioms.rest.now c.in-Ok.constant c.in-Ok.behind.now c.axioms.invariant.backward read);
+          (backward_step c.args.tokens.now c.axioms.constants c.axioms.rest.now c.in-Ok.constant c.in-Ok.behind.now c.axioms.invariant.backward read);
     }

@@ -11,5 +11,6 @@ bytes-init c = rw (c.new-words.ensures, c.new-part.ensures.bytes) (onto_nothing 
 pub bytes-preserved : goal.bytes-preserved
 bytes-preserved c =
     elim c.if-c-eq46.branch [
-      then-c-eq46+in_ok-new+in_ok-push w ↦ grind (arith, common_steps, at_dot) | else-c-eq46+in_ok-push_ascii w ↦ grind (arith, common_steps, at_byte)
+      | then-c-eq46+in_ok-new+in_ok-push w ↦ grind (arith, common_steps, at_dot)
+      | else-c-eq46+in_ok-push_ascii w ↦ grind (arith, common_steps, at_byte)
     ]

@@ -16,5 +16,5 @@ tokens-preserved c = λ ts more.
     let longest : IsLongest is_lexeme (past_white c.tokens.rest.now) n = subst (λ (cs : List ℕ). IsLongest is_lexeme cs n) is c.lexeme_len-n.ensures.longest in
     let token : c.in_ok-token_of.field-0 ≡ token_of (take n (past_white c.tokens.rest.now)) = c.in_ok-token_of.ensures ∙ ap (λ (cs : List ℕ). token_of (take n cs)) is in
     rw c.in_ok-push.ensures.items
-      (one_more c.args.cs.now c.tokens.rest.now _ c.tokens.out.items c.in_ok-token_of.field-0 n c.tokens.invariant c.lexeme_len-n.ensures.some longest token
-        (tail_is n front ∙ ap (drop n) is) ts more)
+    (one_more c.args.cs.now c.tokens.rest.now _ c.tokens.out.items c.in_ok-token_of.field-0 n c.tokens.invariant c.lexeme_len-n.ensures.some longest token
+    (tail_is n front ∙ ap (drop n) is) ts more)
