@@ -1,110 +1,111 @@
 use crate::{
     Binder, BinderKind, ConstInfo, ConstKind, CtorInfo, Detail, Expr, IndDecl, Level, Name,
-    NoMemory, TaskKey, Word,
+    NoMemory, TaskKey,
 };
 use sqlite_items::Items;
 use std::alloc::Global;
 use std::test::Fail;
 
-// `fun {x : Sort (max u 1)} => Nat.{u, 0} x`
-fn sample(alloc: Global) -> Result<Expr, NoMemory> {
+// `max u 1`
+fn at_least_one(alloc: Global) -> Result<Level, NoMemory> {
     let one = Level::succ(alloc, Level::zero(alloc)?)?;
-    let domain = Expr::sort(alloc, Level::max(alloc, Level::param(alloc, 0)?, one)?)?;
+    Level::max(alloc, one, Level::param(alloc, 0)?)
+}
+
+// `Nat.{max u 1}`
+fn constant(alloc: Global) -> Result<Expr, NoMemory> {
     let mut levels = Items::new(alloc);
-    levels.push(Level::param(alloc, 0)?)?;
-    levels.push(Level::zero(alloc)?)?;
-    let head = Expr::constant(alloc, Name::one(alloc, "Nat")?, levels)?;
-    let body = Expr::app(alloc, head, Expr::bound(alloc, 0)?)?;
-    let binder = Binder {
-        name: Name::one(alloc, "x")?,
-        kind: BinderKind::Implicit,
-    };
-    Expr::lam(alloc, binder, domain, body)
+    levels.push(at_least_one(alloc)?)?;
+    Expr::constant(alloc, Name::one(alloc, "Nat")?, levels)
+}
+
+// `fun {x : Sort (max u 1)} => Nat.{max u 1} x`
+fn sample(alloc: Global) -> Result<Expr, NoMemory> {
+    let body = Expr::app(alloc, constant(alloc)?, Expr::bound(alloc, 0)?)?;
+    let domain = Expr::sort(alloc, at_least_one(alloc)?)?;
+    let name = Name::one(alloc, "x")?;
+    let kind = BinderKind::Implicit;
+    Expr::lam(alloc, Binder { name, kind }, domain, body)
+}
+
+// An axiom of that type.
+fn axiom(alloc: Global) -> Result<ConstInfo, NoMemory> {
+    let name = Name::one(alloc, "a")?;
+    let ty = sample(alloc)?;
+    Ok(ConstInfo {
+        name,
+        kind: ConstKind::Axiom,
+        levels: Items::new(alloc),
+        ty,
+        value: None,
+        height: 2,
+        detail: Detail::Plain,
+    })
+}
+
+fn declaration(alloc: Global) -> Result<IndDecl, NoMemory> {
+    let name = Name::one(alloc, "T")?;
+    let ty = sample(alloc)?;
+    Ok(IndDecl {
+        name,
+        levels: Items::new(alloc),
+        params: 1,
+        ty,
+        ctors: Items::<CtorInfo>::new(alloc),
+    })
 }
 
 #[test]
-fn names_by_their_parts(rt: HostRuntime) -> Result<(), Fail> {
-    let alloc = rt.alloc();
-    let nat = Name::one(alloc, "Nat")?;
-    let add = nat.child(alloc, "add")?;
-    let mut parts = Items::new(alloc);
-    parts.push(Word::new(alloc, "Nat")?)?;
-    assert!(rt; Name::new(alloc, parts)?.is(&nat));
+fn a_child_has_one_part_more(rt: HostRuntime) -> Result<(), Fail> {
+    let nat = Name::one(rt.alloc(), "Nat")?;
+    let add = nat.child(rt.alloc(), "add")?;
     assert!(rt; add.is_child_of(&nat));
     assert!(rt; !nat.is_child_of(&add));
     assert!(rt; !add.is_child_of(&add));
-    assert!(rt; !add.child(alloc, "x")?.is_child_of(&nat));
-    assert!(rt; add.copy(alloc)?.is(&add));
+    assert!(rt; add.is(&add.copy(rt.alloc())?));
     assert!(rt; !add.is(&nat));
-    assert_eq!(rt; add.parts().len(), 2);
     Ok(())
 }
 
 #[test]
 fn levels_nodes_count(rt: HostRuntime) -> Result<(), Fail> {
-    let alloc = rt.alloc();
-    let term = sample(alloc)?;
-    assert_eq!(rt; term.node_count(), 11);
-    assert_eq!(rt; term.depth(), 5);
-    let copy = term.copy(alloc)?;
-    assert!(rt; copy.is(&term));
-    assert!(rt; !copy.is(&Expr::lit(alloc, 11)?));
-    assert!(rt; Expr::of(alloc, copy.into_node())?.is(&term));
+    let term = sample(rt.alloc())?;
+    assert_eq!(rt; (term.node_count(), term.depth()), (13, 6));
+    assert!(rt; term.is(&term.copy(rt.alloc())?));
     Ok(())
 }
 
 #[test]
-fn levels_at_arguments(rt: HostRuntime) -> Result<(), Fail> {
-    let alloc = rt.alloc();
-    let level = Level::imax(alloc, Level::param(alloc, 0)?, Level::param(alloc, 1)?)?;
-    let one = [Level::succ(alloc, Level::zero(alloc)?)?];
-    let made = level.substitute(alloc, &one)?;
-    let first = Level::succ(alloc, Level::zero(alloc)?)?;
-    assert!(rt; made.is(&Level::imax(alloc, first, Level::param(alloc, 1)?)?));
-    assert_eq!(rt; made.node_count(), 4);
-    assert_eq!(rt; made.depth(), 3);
-    assert!(rt; level.copy(alloc)?.is(&level));
-    assert!(rt; !Level::meta(alloc, 0)?.is(&Level::param(alloc, 0)?));
+fn a_level_at_arguments(rt: HostRuntime) -> Result<(), Fail> {
+    let level = at_least_one(rt.alloc())?;
+    let args = [at_least_one(rt.alloc())?];
+    let made = level.substitute(rt.alloc(), &args)?;
+    assert_eq!(rt; (made.node_count(), made.depth()), (7, 4));
     Ok(())
 }
 
 #[test]
 fn constants_are_copied(rt: HostRuntime) -> Result<(), Fail> {
-    let alloc = rt.alloc();
-    let mut ctors = Items::new(alloc);
-    ctors.push(Name::one(alloc, "mk")?)?;
-    let info = ConstInfo {
-        name: Name::one(alloc, "T")?,
-        kind: ConstKind::Inductive,
-        levels: Items::new(alloc),
-        ty: sample(alloc)?,
-        value: Some(Expr::free(alloc, 3)?),
-        height: 2,
-        detail: Detail::Ind {
-            params: 1,
-            indices: 0,
-            ctors,
-            large: true,
-        },
-    };
-    let copy = info.copy(alloc)?;
+    let info = axiom(rt.alloc())?;
+    let copy = info.copy(rt.alloc())?;
     assert!(rt; copy.name.is(&info.name) && copy.ty.is(&info.ty));
-    assert_eq!(rt; (copy.kind, copy.height), (ConstKind::Inductive, 2));
-    let mut parts = Items::new(alloc);
-    parts.push(CtorInfo {
-        name: Name::one(alloc, "mk")?,
-        ty: Expr::meta(alloc, 0)?,
-    })?;
-    let decl = IndDecl {
-        name: info.name,
-        levels: Items::new(alloc),
-        params: 1,
-        ty: info.ty,
-        ctors: parts,
-    };
-    let twin = decl.copy(alloc)?;
-    assert_eq!(rt; (twin.params, twin.ctors.len()), (1, 1));
-    let key = TaskKey::Real(decl.name).copy(alloc)?;
-    assert!(rt; matches!(&key, TaskKey::Real(name) if name.is(&twin.name)));
+    assert_eq!(rt; (copy.kind, copy.height), (ConstKind::Axiom, 2));
+    Ok(())
+}
+
+#[test]
+fn declarations_are_copied(rt: HostRuntime) -> Result<(), Fail> {
+    let decl = declaration(rt.alloc())?;
+    let copy = decl.copy(rt.alloc())?;
+    assert!(rt; copy.name.is(&decl.name) && copy.ty.is(&decl.ty));
+    assert_eq!(rt; copy.params, 1);
+    Ok(())
+}
+
+#[test]
+fn keys_are_copied(rt: HostRuntime) -> Result<(), Fail> {
+    let key = TaskKey::Real(Name::one(rt.alloc(), "T")?);
+    let copy = key.copy(rt.alloc())?;
+    assert!(rt; matches!(&copy, TaskKey::Real(name) if name.parts().len() == 1));
     Ok(())
 }
