@@ -100,7 +100,7 @@ fn a_great_instance_is_not_built(rt: HostRuntime) -> Result<(), Fail> {
         alloc,
         &body,
         &full(alloc, 12, Expr::lit(alloc, 1)?)?,
-        1 << 25,
+        1 << 24,
     );
     assert!(rt; matches!(&made, Err(SubstFault::Units)));
     Ok(())
