@@ -169,7 +169,6 @@ fn unchanged(alloc: Global, term: &Expr, left: u64) -> Result<(Expr, u64), Subst
 
 /// `term` with these levels for its level parameters, and its number of nodes. A parameter past the
 /// arguments stays. The result is measured first, so nothing is built where it is refused.
-#[tactic(auto, using(crate::proofs::Unchanged::term_stays))]
 pub fn level_inst(
     alloc: Global,
     term: &Expr,
