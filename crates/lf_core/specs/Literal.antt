@@ -1,7 +1,7 @@
 -- What functions of `Nat` give on literals.
 -- Lean 4 reference manual, "Natural Numbers": the kernel computes these functions on literals.
 -- That a literal is below 2^128 is this project's.
-use Rattle.std.specs.Prelude.{ℕ, Bool, ◌+◌, ◌-◌, ◌*◌, ◌/◌, ◌%◌, nat_eq, nat_lt, nat_le, bit_and, if◌then◌else◌, List, [], ◌∷◌, drop, Option, Some, None, option_and_then, codes}
+use Rattle.std.specs.Prelude.{ℕ, ◌+◌, ◌-◌, ◌*◌, ◌/◌, ◌%◌, nat_eq, nat_lt, nat_le, bit_and, if◌then◌else◌, List, [], ◌∷◌, drop, Option, Some, None, option_and_then, codes}
 use Rattle.std.specs.Int.Bits.{bit_or, bit_xor}
 use Rattle.std.specs.Str.{bytes_eq}
 use Rattle.std.specs.List.{starts_with}
@@ -12,8 +12,8 @@ use Rattle.lf_core.specs.declared.literal.Operation.{Operation}
 use Rattle.lf_core.specs.declared.literal.Operation.TheVariants.{Add, Sub, Mul, Div, Mod, Beq, Ble, Land, Lor, Xor}
 
 -- The function of `Nat` whose name ends so.
-abbrev pub last_names : List ℕ → Option Operation
-last_names name =
+abbrev pub nat_function : List ℕ → Option Operation
+nat_function name =
     if bytes_eq (codes "add") name then Some Add else
     if bytes_eq (codes "beq") name then Some Beq else
     if bytes_eq (codes "ble") name then Some Ble else
@@ -28,12 +28,12 @@ last_names name =
 
 -- By the constant's name: `Nat` and one more part.
 abbrev pub operation_of : Path → Option Operation
-operation_of (space ∷ name ∷ []) = if bytes_eq space (codes "Nat") then last_names name else None
+operation_of (space ∷ name ∷ []) = if bytes_eq space (codes "Nat") then nat_function name else None
 operation_of _ = None
 
 -- By its text, as `Nat.add`.
 abbrev pub operation_of_text : List ℕ → Option Operation
-operation_of_text text = if starts_with nat_eq text (codes "Nat.") then last_names (drop 4 text) else None
+operation_of_text text = if starts_with nat_eq text (codes "Nat.") then nat_function (drop 4 text) else None
 
 -- A number is a literal only below 2^128.
 abbrev pub number : ℕ → Option LitOut

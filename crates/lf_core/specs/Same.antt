@@ -1,5 +1,5 @@
 -- Whether two trees are the same, binder names and kinds included.
-use Rattle.std.specs.Prelude.{ℕ, Bool, true, false, ◌&&◌, ◌==◌, List, [], ◌∷◌}
+use Rattle.std.specs.Prelude.{Bool, true, false, ◌&&◌, ◌==◌, List, [], ◌∷◌}
 use Rattle.std.specs.Str.{bytes_eq}
 use Rattle.lf_core.specs.declared.binder.Binder.{Binder}
 use Rattle.lf_core.specs.declared.binder.BinderKind.{BinderKind}

@@ -1,7 +1,7 @@
 -- Instantiation, abstraction and level substitution of locally nameless terms:
 -- a bound variable is a de Bruijn index, a free one its place in the context.
 -- The standard operations (de Bruijn 1972; Charguéraud 2012, "The Locally Nameless Representation").
-use Rattle.std.specs.Prelude.{ℕ, suc, ◌+◌, ◌-◌, nat_eq, nat_lt, if◌then◌else◌, List, [], ◌∷◌, map, slice_get, unwrap_or}
+use Rattle.std.specs.Prelude.{ℕ, suc, ◌+◌, ◌-◌, nat_eq, nat_lt, if◌then◌else◌, List, map, slice_get, unwrap_or}
 use Rattle.lf_core.specs.Term.{Universe, level_zero, level_succ, level_max, level_imax, level_param, level_meta, Term, bound, free, meta, sort, const, app, lam, pi, letin, lit}
 
 -- t with n more binders round it: its loose bound variables from d on are raised by n.

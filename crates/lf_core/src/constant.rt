@@ -133,6 +133,15 @@ fn copy_value(alloc: Global, value: &Option<Expr>) -> Result<Option<Expr>, NoMem
     }
 }
 
+impl ConstKind {
+    /// The same kind. It takes no memory.
+    pub fn copy(&self, _alloc: Global) -> Result<ConstKind, NoMemory>
+        ensures { result ≡ Ok self.now }
+    {
+        Ok(*self)
+    }
+}
+
 impl Detail {
     /// A copy equal to this.
     pub fn copy(&self, alloc: Global) -> Result<Detail, NoMemory>

@@ -20,3 +20,6 @@ pub use literal::{LitOut, Operation};
 pub use memory::NoMemory;
 pub use name::{Name, same_parts};
 pub use word::Word;
+
+#[cfg(test)]
+mod tests;

@@ -9,7 +9,7 @@ use Rattle.lf_core.specs.Size.{level_depth}
 use Rattle.lf_level.specs.Parameters.{HasNoMetavariable, occurrences, distinct_behind, parameters_of}
 use Rattle.lf_level.specs.Decision.{assigned, assignment, passes}
 use Rattle.lf_level.proofs.Regions.{Over, Alike, monotone, signs, Reached, by_number, by_parameter, reached}
-use Rattle.lf_level.proofs.Tests.{sign, near, far_at, Among, near_at, far_here, far_there, Holds, pass_near, pass_far, passes_if, and_parts}
+use Rattle.lf_level.proofs.Trials.{sign, near, far_at, Among, near_at, far_here, far_there, Holds, pass_near, pass_far, passes_if, and_parts}
 
 sign_below : (n : ℕ) → sign n ≤ n
 sign_below zero = omega arith
@@ -139,6 +139,7 @@ found seen (x ∷ xs) k h = by (found (if list_any (λ j. nat_eq j x) seen then 
     last true b r = refl
     last false true r = refl
     last false false r = r
+
   by : (Among xs k → Among (distinct_behind seen (x ∷ xs)) k) → (nat_eq x k ≡ true) ⊎ (list_any (λ j. nat_eq j k) xs ≡ true) → Among (distinct_behind seen (x ∷ xs)) k
   by r (inl q) = kept (if list_any (λ j. nat_eq j x) seen then seen else seen ++ x ∷ []) xs k (here (list_any (λ j. nat_eq j x) seen) refl q)
   by r (inr q) = r q
@@ -181,9 +182,10 @@ leq_answer u v names b e ou ov d p =
 pub same_answer : (u v : Universe) (names : List ℕ) (b : Bool) → names ≡ parameters_of u v → HasNoMetavariable u → HasNoMetavariable v → level_depth u ≤ 1024 → level_depth v ≤ 1024 → b ≡ (passes u v names [] names true && passes v u names [] names true) → IsTrue b ↔ Same u v
 same_answer u v names b e ou ov d d' p =
     let f : passes u v names [] names true ≡ passes u v (parameters_of u v) [] (parameters_of u v) true = ap (λ n. passes u v n [] n true) e in
-    let g : passes v u names [] names true ≡ passes v u (parameters_of u v) [] (parameters_of u v) true = ap (λ n. passes v u n [] n true) e in
-    (λ t s. let w = and_parts _ _ (sym p ∙ t) in
-      let x = leq_if u v ou ov d' (sym f ∙ w.0) s in
-      let y = geq_if u v ou ov d (sym g ∙ w.1) s in
-      omega arith,
-     λ h. p ∙ and_true _ _ (passes_if u v names (λ s. let x = h s in omega arith) names [] true) (passes_if v u names (λ s. let x = h s in omega arith) names [] true))
+    let g : passes v u names [] names true ≡ passes v u (parameters_of u v) [] (parameters_of u v) true = ap (λ n. passes v u n [] n true) e in (
+      λ t s. let w = and_parts _ _ (sym p ∙ t) in
+          let x = leq_if u v ou ov d' (sym f ∙ w.0) s in
+          let y = geq_if u v ou ov d (sym g ∙ w.1) s in
+          omega arith,
+      λ h. p ∙ and_true _ _ (passes_if u v names (λ s. let x = h s in omega arith) names [] true) (passes_if v u names (λ s. let x = h s in omega arith) names [] true),
+    )

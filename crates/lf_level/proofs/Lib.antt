@@ -1,4 +1,4 @@
 pub mod Collecting
 pub mod Regions
-pub mod Tests
+pub mod Trials
 pub mod Decided

@@ -6,7 +6,7 @@ use Rattle.lf_level.specs.declared.fault.LevelFault.{LevelFault}
 use Rattle.lf_level.specs.declared.fault.LevelFault.TheVariants.{TooMany, NoMemory}
 
 -- Whether the fact holds, where the two levels have at most 8 distinct parameters; or no memory.
-abbrev pub Decides : (Universe → Universe → Type 0) → Universe → Universe → Result Bool LevelFault → Type 0
-Decides Fact l m (Ok b) = (length (parameters_of l m) ≤ 8) × (IsTrue b ↔ Fact l m)
-Decides Fact l m (Err TooMany) = 8 < length (parameters_of l m)
-Decides Fact l m (Err NoMemory) = Unit {0}
+abbrev pub Answers : (Universe → Universe → Type 0) → Universe → Universe → Result Bool LevelFault → Type 0
+Answers Fact l m (Ok b) = (length (parameters_of l m) ≤ 8) × (IsTrue b ↔ Fact l m)
+Answers Fact l m (Err TooMany) = 8 < length (parameters_of l m)
+Answers Fact l m (Err NoMemory) = Unit {0}

@@ -8,3 +8,7 @@ mod value;
 
 pub use fault::LevelFault;
 pub use order::{leq, same, subst};
+pub use parameters::has_no_metavariable;
+
+#[cfg(test)]
+mod tests;

@@ -2,7 +2,7 @@ ghost use Rattle.std.specs.Prelude.{◌≡◌, ◌&&◌, true, ◌+◌, ◌∷�
 ghost use Rattle.lf_core.specs.Level.{Leq, Same};
 ghost use Rattle.lf_core.specs.Size.{level_depth};
 ghost use Rattle.lf_core.specs.Substitution.{level_substitute};
-ghost use Rattle.lf_level.specs.Answer.{Decides};
+ghost use Rattle.lf_level.specs.Answer.{Answers};
 ghost use Rattle.lf_level.specs.Parameters.{HasNoMetavariable, parameters_of};
 ghost use Rattle.lf_level.specs.Decision.{Lists, passes};
 
@@ -84,7 +84,7 @@ pub fn leq(alloc: Global, u: &Level, v: &Level) -> Result<bool, LevelFault>
     requires right { HasNoMetavariable v.now }
     requires left_depth { level_depth u.now ≤ 1024 }
     requires right_depth { level_depth v.now ≤ 1024 }
-    ensures { Decides Leq u.now v.now result }
+    ensures { Answers Leq u.now v.now result }
 {
     let names = parameters(alloc, u, v)?;
     if u.is(v) {
@@ -101,7 +101,7 @@ pub fn same(alloc: Global, u: &Level, v: &Level) -> Result<bool, LevelFault>
     requires right { HasNoMetavariable v.now }
     requires left_depth { level_depth u.now ≤ 1024 }
     requires right_depth { level_depth v.now ≤ 1024 }
-    ensures { Decides Same u.now v.now result }
+    ensures { Answers Same u.now v.now result }
 {
     let names = parameters(alloc, u, v)?;
     if u.is(v) {

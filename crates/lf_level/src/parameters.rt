@@ -1,5 +1,5 @@
-ghost use Rattle.std.specs.Prelude.{◌≤◌, ◌∷◌, [], length};
-ghost use Rattle.lf_level.specs.Parameters.{occurrences};
+ghost use Rattle.std.specs.Prelude.{◌≤◌, ◌↔◌, ◌∷◌, [], IsTrue, length};
+ghost use Rattle.lf_level.specs.Parameters.{HasNoMetavariable, occurrences};
 ghost use Rattle.lf_level.specs.Decision.{Collects};
 
 use crate::fault::LevelFault;
@@ -8,6 +8,20 @@ use sqlite_items::Items;
 
 /// The most distinct parameters that are compared.
 pub const MOST: usize = 8;
+
+/// Whether no metavariable stands in the level.
+pub fn has_no_metavariable(level: &Level) -> bool
+    ensures { IsTrue result ↔ HasNoMetavariable level.now }
+{
+    match level.node() {
+        LevelNode::Zero | LevelNode::Param(_) => true,
+        LevelNode::Succ(l) => has_no_metavariable(l),
+        LevelNode::Max(l, m) | LevelNode::Imax(l, m) => {
+            has_no_metavariable(l) && has_no_metavariable(m)
+        }
+        LevelNode::Meta(_) => false,
+    }
+}
 
 // Puts a parameter behind `seen`, where it isn't there.
 fn see(parameter: u32, seen: &mut Items<u32>) -> Result<(), LevelFault>

@@ -2,16 +2,15 @@
 #![tactic(auto)]
 
 ghost use Rattle.std.specs.Prelude.{◌≡◌, option_and_then};
-ghost use Rattle.lf_core.specs.Literal.{last_names, operation_of, operation_of_text, number, compute};
+ghost use Rattle.lf_core.specs.Literal.{nat_function, operation_of, operation_of_text, number, compute};
 
+pub use lf_core::LitOut;
 use lf_core::{Name, Operation};
 use lf_tables::{Table, rows};
 
-pub use lf_core::LitOut;
-
 // The function of `Nat` whose name ends so.
 fn by_last_part(name: &str) -> Option<Operation>
-    ensures { result ≡ last_names name.now }
+    ensures { result ≡ nat_function name.now }
 {
     let rows = rows! {
         "add" => Operation::Add,
@@ -76,3 +75,6 @@ pub fn nat_op(op: &str, a: u128, b: u128) -> Option<LitOut>
 {
     apply(by_last_part(op.strip_prefix("Nat.")?)?, a, b)
 }
+
+#[cfg(test)]
+mod tests;

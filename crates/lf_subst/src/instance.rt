@@ -168,6 +168,28 @@ fn put(alloc: Global, under: u32, arg: &Expr, body: &Expr) -> Result<Expr, NoMem
     }
 }
 
+// Whether the instance is at most as deep as allowed. The two depths mostly show it, without a walk.
+#[tactic(auto, using(crate::proofs::Bounds::instance_depth))]
+fn is_allowed(body: &Expr, arg: &Expr) -> bool
+    requires body { size.depth body.now ≤ 1024 }
+    requires arg { size.depth arg.now ≤ 1024 }
+    ensures { IsTrue result ↔ (size.depth (spec.instantiate body.now arg.now) ≤ 1024) }
+{
+    body.depth() + arg.depth() <= DEEPEST + 1 || is_within(DEEPEST, 0, arg, body)
+}
+
+// Whether the nodes of the instance are within `left`. The two counts mostly show it, without a walk.
+#[tactic(auto, using(crate::proofs::Bounds::instance_count))]
+fn has_room(left: u64, body: &Expr, arg: &Expr) -> bool
+    requires { size.depth body.now ≤ 1024 }
+    ensures { IsTrue result ↔ (size.node_count (spec.instantiate body.now arg.now) ≤ left) }
+{
+    match body.node_count().checked_mul(arg.node_count()) {
+        Some(most) if most <= left => true,
+        _ => spend(left, 0, arg, body).is_some(),
+    }
+}
+
 /// `body` with `arg` for its outermost loose bound variable, and its number of nodes. The loose variables
 /// of `arg` are raised under the binders that it comes under, those of `body` beyond the variable lowered.
 /// The result is measured first, so nothing is built where it is refused.
@@ -181,10 +203,10 @@ pub fn instantiate(
     requires arg { size.depth arg.now ≤ 1024 }
     ensures { Substitutes (spec.instantiate body.now arg.now) left result }
 {
-    if !is_within(DEEPEST, 0, arg, body) {
+    if !is_allowed(body, arg) {
         return Err(SubstFault::TooDeep);
     }
-    if spend(left, 0, arg, body).is_none() {
+    if !has_room(left, body, arg) {
         return Err(SubstFault::Units);
     }
     let term = put(alloc, 0, arg, body)?;

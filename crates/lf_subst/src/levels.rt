@@ -154,6 +154,19 @@ fn put(alloc: Global, args: &[Level], term: &Expr) -> Result<Expr, NoMemory>
     }
 }
 
+// A copy, for no arguments.
+fn unchanged(alloc: Global, term: &Expr, left: u64) -> Result<(Expr, u64), SubstFault>
+    requires { size.depth term.now ≤ 1024 }
+    ensures { Substitutes term.now left result }
+{
+    let nodes = term.node_count();
+    if nodes > left {
+        return Err(SubstFault::Units);
+    }
+    let made = term.copy(alloc)?;
+    Ok((made, nodes))
+}
+
 /// `term` with these levels for its level parameters, and its number of nodes. A parameter past the
 /// arguments stays. The result is measured first, so nothing is built where it is refused.
 pub fn level_inst(
@@ -165,6 +178,9 @@ pub fn level_inst(
     requires { size.depth term.now ≤ 1024 }
     ensures { Substitutes (spec.level_instantiate args.now term.now) left result }
 {
+    if args.is_empty() {
+        return unchanged(alloc, term, left);
+    }
     if !is_within(DEEPEST, args, term) {
         return Err(SubstFault::TooDeep);
     }

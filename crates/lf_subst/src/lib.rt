@@ -10,3 +10,6 @@ pub use closing::abstract_free;
 pub use fault::SubstFault;
 pub use instance::instantiate;
 pub use levels::level_inst;
+
+#[cfg(test)]
+mod tests;

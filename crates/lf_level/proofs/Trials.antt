@@ -49,6 +49,7 @@ far_there p s (n ∷ ns) k d h = by (far_there p s ns k d) (nat_eq n p) refl whe
   other : (b : Bool) → nat_eq n k ≡ b → (b || list_any (λ j. nat_eq j k) ns) ≡ true → nat_eq n p ≡ true → (if b then 1025 else assigned ns (near s ns) k) ≡ sign (s.parameter k)
   other true e g f = absurd (grind (arith, nat_tests))
   other false e g f = near_at s ns k g
+
   by : (Among ns k → assigned ns (far_at p s ns) k ≡ sign (s.parameter k)) → (b : Bool) → nat_eq n p ≡ b → assigned (n ∷ ns) (if b then 1025 ∷ near s ns else sign (s.parameter n) ∷ far_at p s ns) k ≡ sign (s.parameter k)
   by r true e = other (nat_eq n k) refl h e
   by r false e = near_step (nat_eq n k) s n k (list_any (λ j. nat_eq j k) ns) (assigned ns (far_at p s ns) k) refl h r
