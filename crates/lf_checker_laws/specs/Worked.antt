@@ -8,7 +8,7 @@ use Rattle.lf_core.specs.declared.binder.BinderKind.TheVariants.{Explicit}
 use Rattle.lf_core.specs.declared.constant.ConstInfo.{ConstInfo}
 use Rattle.lf_core.specs.declared.constant.ConstKind.TheVariants.{Axiom, Def, Theorem, Inductive, Constructor, Recursor}
 use Rattle.lf_core.specs.declared.constant.Detail.TheVariants.{Plain, Ind, Ctor, Rec}
-use Rattle.lf_env.specs.View.{View, base_view, body}
+use Rattle.lf_env.specs.View.{View, base_view}
 use Rattle.lf_env.specs.Run.{Answer, done, refused, out, need, Refusal, wrong_argument, not_closed}
 use Rattle.lf_env.specs.Checker.{whnf, equal, infer, normalize}
 

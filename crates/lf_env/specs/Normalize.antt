@@ -1,11 +1,10 @@
 -- The normal form: the weak head form, and then its parts.
-use Rattle.std.specs.Prelude.{ℕ, suc, ◌^◌, true, ◌&&◌, nat_lt, if◌then◌else◌, List, [], ◌∷◌, length}
-use Rattle.lf_core.specs.Term.{Path, Universe, Term, const, app, lam, pi, lit}
+use Rattle.std.specs.Prelude.{suc, ◌^◌, true, ◌&&◌, nat_lt, if◌then◌else◌, List, [], ◌∷◌, length}
+use Rattle.lf_core.specs.Term.{Term, const, app, lam, pi, lit}
 use Rattle.lf_core.specs.Same.{same}
 use Rattle.lf_core.specs.Substitution.{abstract}
 use Rattle.lf_core.specs.Spine.{apply, head_of, arguments_of}
 use Rattle.lf_core.specs.Environment.{Context, with, nat_zero, nat_succ}
-use Rattle.lf_env.specs.View.{View}
 use Rattle.lf_env.specs.Run.{Run, ◌>>=◌, gives, put, made, opening}
 use Rattle.lf_env.specs.Calls.{Calls}
 
