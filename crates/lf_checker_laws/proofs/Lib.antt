@@ -2,3 +2,4 @@ pub mod Worked
 pub mod Kept
 pub mod Extended
 pub mod Extended_declarations
+pub mod Tests
