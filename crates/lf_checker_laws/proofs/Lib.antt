@@ -6,3 +6,5 @@ pub mod Tests
 pub mod Runs
 pub mod Fitting
 pub mod Forming
+pub mod Ends
+pub mod Views

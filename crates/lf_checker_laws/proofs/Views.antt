@@ -1,0 +1,72 @@
+-- What the views' answers tell of constants, and the operations' of numbers.
+use Rattle.std.proofs.Common.{◌≡◌, ℕ, ◌<◌, ◌^◌, Bool, true, false, nat_lt, if◌then◌else◌, Option, Some, None, option_and_then, refl, sym, ap, subst, ◌∙◌}
+use Rattle.std.proofs.lemmas.Bool.{cond_both, ltb-true}
+use Rattle.lf_core.specs.Term.{Path, Term}
+use Rattle.lf_core.specs.Literal.{operation_of, number, compute, literal_operation}
+use Rattle.lf_core.specs.declared.constant.ConstInfo.{ConstInfo}
+use Rattle.lf_core.specs.declared.constant.ConstKind.{ConstKind}
+use Rattle.lf_core.specs.declared.constant.ConstKind.TheVariants.{Axiom, Def, Theorem, Inductive, Constructor, Recursor}
+use Rattle.lf_core.specs.declared.literal.LitOut.{LitOut}
+use Rattle.lf_core.specs.declared.literal.LitOut.TheVariants.{Nat, Bool as Truth}
+use Rattle.lf_core.specs.declared.literal.Operation.{Operation}
+use Rattle.lf_core.specs.declared.literal.Operation.TheVariants.{Add, Sub, Mul, Div, Mod, Beq, Ble, Land, Lor, Xor}
+use Rattle.lf_env.specs.View.{View, Lookup, found, lookup_of, KnownBody, value, opaque, unresolved, known_body, definition_body, is_definition, find_branch, found_body, body_of}
+
+kind_is_definition : (k : ConstKind) → is_definition k ≡ true → k ≡ Def
+kind_is_definition Def e = refl
+kind_is_definition Axiom e = cc
+kind_is_definition Theorem e = cc
+kind_is_definition Inductive e = cc
+kind_is_definition Constructor e = cc
+kind_is_definition Recursor e = cc
+
+value_known : (o : Option Term) (h i : ℕ) (v : Term) → known_body o h ≡ value v i → o ≡ Some v
+value_known (Some w) h i v e = let w' : w ≡ v = cc in ap Some w'
+value_known None h i v e = absurd (cc)
+
+definition_known : (c : ConstInfo) (o : Option ℕ) (v : Term) (i : ℕ) → definition_body c o ≡ value v i → c.value ≡ Some v
+definition_known c (Some p) v i e = absurd (cc)
+definition_known c None v i e = value_known c.value c.height i v e
+
+-- A body that is a value is that of a definition.
+pub body_is : (V : View) (n : Path) (c : ConstInfo) (v : Term) (i : ℕ) → lookup_of V n ≡ found c → body_of V n ≡ value v i → (c.kind ≡ Def) × (c.value ≡ Some v)
+body_is V n c v i q e =
+    cond_both (is_definition c.kind) (definition_body c (find_branch V.branches c.name)) opaque (λ b. b ≡ value v i → (c.kind ≡ Def) × (c.value ≡ Some v))
+    (λ d e'. (kind_is_definition c.kind d, definition_known c (find_branch V.branches c.name) v i e'))
+    (λ d e'. absurd (cc))
+    (ap (λ l. found_body V n l) (sym q) ∙ e)
+
+pub found_is : (c d : ConstInfo) → found c ≡ found d → c ≡ d
+found_is c d e = cc
+
+abbrev Bounded : LitOut → Type 0
+Bounded (Nat k) = k < 2 ^ 128
+Bounded (Truth b) = Unit {0}
+
+number_bounded : (m : ℕ) (r : LitOut) → number m ≡ Some r → Bounded r
+number_bounded m r =
+    cond_both (nat_lt m 340282366920938463463374607431768211456) (Some (Nat m)) None (λ o. o ≡ Some r → Bounded r)
+    (λ e q. let q' : Nat m ≡ r = cc in subst Bounded q' (ltb-true m 340282366920938463463374607431768211456 e))
+    (λ e q. absurd (cc))
+
+truth_bounded : (b : Bool) (r : LitOut) → Some (Truth b) ≡ Some r → Bounded r
+truth_bounded b r q = let q' : Truth b ≡ r = cc in subst Bounded q' tt
+
+computed_bounded : (f : Operation) (a b : ℕ) (r : LitOut) → compute f a b ≡ Some r → Bounded r
+computed_bounded Add a b r e = number_bounded _ r e
+computed_bounded Sub a b r e = number_bounded _ r e
+computed_bounded Mul a b r e = number_bounded _ r e
+computed_bounded Div a b r e = number_bounded _ r e
+computed_bounded Mod a b r e = number_bounded _ r e
+computed_bounded Beq a b r e = truth_bounded _ r e
+computed_bounded Ble a b r e = truth_bounded _ r e
+computed_bounded Land a b r e = number_bounded _ r e
+computed_bounded Lor a b r e = number_bounded _ r e
+computed_bounded Xor a b r e = number_bounded _ r e
+
+found_bounded : (o : Option Operation) (a b : ℕ) (r : LitOut) → option_and_then (λ f. compute f a b) o ≡ Some r → Bounded r
+found_bounded (Some f) a b r e = computed_bounded f a b r e
+found_bounded None a b r e = absurd (cc)
+
+pub operation_bounded : (n : Path) (a b k : ℕ) → literal_operation n a b ≡ Some (Nat k) → k < 2 ^ 128
+operation_bounded n a b k e = found_bounded (operation_of n) a b (Nat k) e
