@@ -8,3 +8,4 @@ pub mod Fitting
 pub mod Forming
 pub mod Ends
 pub mod Views
+pub mod Reduces
