@@ -9,3 +9,4 @@ pub mod Forming
 pub mod Ends
 pub mod Views
 pub mod Reduces
+pub mod Turns

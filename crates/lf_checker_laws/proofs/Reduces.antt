@@ -40,12 +40,12 @@ Goes V E C t stays = Unit {0}
 Goes V E C t (next s) = Reduct V E C t s
 Goes V E C t (ends s) = Reduct V E C t s
 
-goes_from : (V : View) (E : Environment) (C : Context) (t s : Term) (p : Progress) → Equal E C t s → Goes V E C s p → Goes V E C t p
+pub goes_from : (V : View) (E : Environment) (C : Context) (t s : Term) (p : Progress) → Equal E C t s → Goes V E C s p → Goes V E C t p
 goes_from V E C t s stays e h = tt
 goes_from V E C t s (next r) e h = (transitive e h.0, h.1)
 goes_from V E C t s (ends r) e h = (transitive e h.0, h.1)
 
-goes_made : (V : View) (E : Environment) (C : Context) (t g : Term) (xs : List Term) (u : ℕ) → Reduct V E C t (apply g xs) → Post (Goes V E C t) (goes (made_before xs g) u)
+pub goes_made : (V : View) (E : Environment) (C : Context) (t g : Term) (xs : List Term) (u : ℕ) → Reduct V E C t (apply g xs) → Post (Goes V E C t) (goes (made_before xs g) u)
 goes_made V E C t g xs u h = post_then (Reduct V E C t) (Goes V E C t) (made_before xs g u) (λ s. gives (next s)) (post_made_before (Reduct V E C t) xs g u h) λ s v k. k
 
 -- A step at the head.
@@ -55,7 +55,7 @@ stepped V E C t h g xs e st sh fg fx ft =
 
 -- ---- The parts of a recursor's arguments.
 
-abbrev SplitIs : ℕ → List Term → Option Split → Type 0
+abbrev pub SplitIs : ℕ → List Term → Option Split → Type 0
 SplitIs n xs None = Unit {0}
 SplitIs n xs (Some s) = (xs ≡ s.before ++ (s.major ∷ s.after)) × (length s.before ≡ n)
 
@@ -63,21 +63,21 @@ split_more : (x : Term) (n : ℕ) (xs : List Term) (o : Option Split) → SplitI
 split_more x n xs None h = tt
 split_more x n xs (Some s) h = (ap (λ ys. x ∷ ys) h.0, ap suc h.1)
 
-split_is : (n : ℕ) (xs : List Term) → SplitIs n xs (split n xs)
+pub split_is : (n : ℕ) (xs : List Term) → SplitIs n xs (split n xs)
 split_is n [] = tt
 split_is zero (x ∷ xs) = (refl, refl)
 split_is (suc n) (x ∷ xs) = split_more x n xs (split n xs) (split_is n xs)
 
 -- What a recursor is, where its rule fires.
 pub record IsRecursor (V : View) (E : Environment) (C : Context) (c : ConstInfo) (r : Recursor) (ls : List Universe) (s : Split) : Type 0 where
-  within : Contains E c
-  detail : c.detail ≡ Rec r.ind r.params r.minors r.indices r.rules
-  levels : length ls ≡ length c.levels
-  lead : length s.before ≡ shared r + r.indices
-  before : AllFit V E (length C) s.before
-  after : AllFit V E (length C) s.after
+  pub within : Contains E c
+  pub detail : c.detail ≡ Rec r.ind r.params r.minors r.indices r.rules
+  pub levels : length ls ≡ length c.levels
+  pub lead : length s.before ≡ shared r + r.indices
+  pub before : AllFit V E (length C) s.before
+  pub after : AllFit V E (length C) s.after
 
-abbrev Whole : ConstInfo → List Universe → Split → Term → Term
+abbrev pub Whole : ConstInfo → List Universe → Split → Term → Term
 Whole c ls s m = apply (app (apply (const c.name ls) s.before) m) s.after
 
 rule_sound : (V : View) (E : Environment) → ClosedList V E → (C : Context) (c d : ConstInfo) (r : Recursor) (ls ms : List Universe) (s : Split) (index own fields : ℕ) (ys : List Term) (o : Option Term) (u : ℕ) → IsRecursor V E C c r ls s
@@ -134,7 +134,7 @@ head_fires V E cl C c r ls s (const n ms) ys u i fy sy ft = seen_sound V E cl C 
 head_fires V E cl C c r ls s _ ys u i fy sy ft = tt
 
 -- The arguments alone need fit: a literal's constructor may be none of the list.
-fire_sound : (V : View) (E : Environment) → ClosedList V E → (C : Context) (c : ConstInfo) (r : Recursor) (ls : List Universe) (s : Split) (m : Term) (u : ℕ) → IsRecursor V E C c r ls s
+pub fire_sound : (V : View) (E : Environment) → ClosedList V E → (C : Context) (c : ConstInfo) (r : Recursor) (ls : List Universe) (s : Split) (m : Term) (u : ℕ) → IsRecursor V E C c r ls s
     → AllFit V E (length C) (arguments_of m) → Scoped 0 (length C) m → Formed E C (Whole c ls s m) → Post (Goes V E C (Whole c ls s m)) (fire V r ls s m u)
 fire_sound V E cl C c r ls s m u i fy sm ft =
     subst (λ k. Post (Goes V E C (Whole c ls s k)) (fire V r ls s m u)) (sym (rebuilt m))
@@ -142,7 +142,7 @@ fire_sound V E cl C c r ls s m u i fy sm ft =
 
 -- ---- The constructor that a literal is.
 
-constructor_equal : (V : View) (E : Environment) (C : Context) (w : Term) → Fit V E C w → Equal E C w (constructor_of w)
+pub constructor_equal : (V : View) (E : Environment) (C : Context) (w : Term) → Fit V E C w → Equal E C w (constructor_of w)
 constructor_equal V E C (lit zero) h = step literal_zero tt (has_type (literal 0))
 constructor_equal V E C (lit (suc n)) h = step (literal_succ n h.1.1) tt (has_type (literal (suc n)))
 constructor_equal V E C (bound i) h = reflexive (bound i)
@@ -155,7 +155,7 @@ constructor_equal V E C (lam x A b) h = reflexive (lam x A b)
 constructor_equal V E C (pi x A b) h = reflexive (pi x A b)
 constructor_equal V E C (letin x A v b) h = reflexive (letin x A v b)
 
-constructor_arguments : (V : View) (E : Environment) (C : Context) (w : Term) → Fit V E C w → AllFit V E (length C) (arguments_of (constructor_of w))
+pub constructor_arguments : (V : View) (E : Environment) (C : Context) (w : Term) → Fit V E C w → AllFit V E (length C) (arguments_of (constructor_of w))
 constructor_arguments V E C (lit zero) h = tt
 constructor_arguments V E C (lit (suc n)) h = ((tt, (h.1.0, omega (arith, h.1.1))), tt)
 constructor_arguments V E C (bound i) h = tt
@@ -168,7 +168,7 @@ constructor_arguments V E C (lam x A b) h = tt
 constructor_arguments V E C (pi x A b) h = tt
 constructor_arguments V E C (letin x A v b) h = tt
 
-constructor_scoped : (V : View) (E : Environment) (C : Context) (w : Term) → Fit V E C w → Scoped 0 (length C) (constructor_of w)
+pub constructor_scoped : (V : View) (E : Environment) (C : Context) (w : Term) → Fit V E C w → Scoped 0 (length C) (constructor_of w)
 constructor_scoped V E C (lit zero) h = tt
 constructor_scoped V E C (lit (suc n)) h = (tt, tt)
 constructor_scoped V E C (bound i) h = h.0
@@ -188,26 +188,26 @@ true_is P (Some true) h e = h refl
 true_is P (Some false) h e = no_false e
 true_is P None h e = no_false e
 
-prop_is : (o : Option Universe) → is_prop_level o ≡ true → (l : Universe) × (o ≡ Some l) × Same l level_zero
+pub prop_is : (o : Option Universe) → is_prop_level o ≡ true → (l : Universe) × (o ≡ Some l) × Same l level_zero
 prop_is (Some l) e = (l, refl, level_same l level_zero e)
 prop_is None e = no_false e
 
 -- What is known of the type and of its constructor.
-record IsLikeK (V : View) (E : Environment) (r : Recursor) (t d : ConstInfo) (n : Path) : Type 0 where
-  type : Contains E t
-  type_name : t.name ≡ r.ind
-  params : ℕ
-  indices : ℕ
-  names : List Path
-  large : Bool
-  detail : t.detail ≡ Ind params indices names large
-  level : Universe
-  result : result_level t.ty ≡ Some level
-  prop : Same level level_zero
-  constructor : lookup_of V n ≡ found d
-  within : Contains E d
-  index : ℕ
-  fieldless : d.detail ≡ Ctor r.ind index r.params 0
+pub record IsLikeK (V : View) (E : Environment) (r : Recursor) (t d : ConstInfo) (n : Path) : Type 0 where
+  pub type : Contains E t
+  pub type_name : t.name ≡ r.ind
+  pub params : ℕ
+  pub indices : ℕ
+  pub names : List Path
+  pub large : Bool
+  pub detail : t.detail ≡ Ind params indices names large
+  pub level : Universe
+  pub result : result_level t.ty ≡ Some level
+  pub prop : Same level level_zero
+  pub constructor : lookup_of V n ≡ found d
+  pub within : Contains E d
+  pub index : ℕ
+  pub fieldless : d.detail ≡ Ctor r.ind index r.params 0
 
 proposition_of : (V : View) (E : Environment) (r : Recursor) (t d : ConstInfo) (n : Path) (P : Term) → (k : IsLikeK V E r t d n) → EndsIn t.name 0 (k.params + k.indices) P → IsDeclaredProposition E P
 proposition_of V E r t d n P k (ls, xs, e, l) = record {
@@ -234,7 +234,7 @@ type_ends V E cl r t d n k c q =
     let e : r.params + 0 ≡ r.params = omega arith in
     subst (λ z. EndsIn t.name r.params (k.params + k.indices) z.ty) same' (subst (λ m. EndsIn t.name m (k.params + k.indices) d.ty) e h)
 
-put_in_sound : (V : View) (E : Environment) → ClosedList V E → (c : Calls) → Sound V E c → Ends V c → (C : Context) (k t d : ConstInfo) (r : Recursor) (ls : List Universe) (s : Split) (w : Term) (n : Path) (u : ℕ) → ContextFits V E C
+pub put_in_sound : (V : View) (E : Environment) → ClosedList V E → (c : Calls) → Sound V E c → Ends V c → (C : Context) (k t d : ConstInfo) (r : Recursor) (ls : List Universe) (s : Split) (w : Term) (n : Path) (u : ℕ) → ContextFits V E C
     → IsRecursor V E C k r ls s → IsLikeK V E r t d n → Fit V E C w → Formed E C (Whole k ls s w) → Formed E C w → Post (Goes V E C (Whole k ls s w)) (put_in V c C ls r s w n u)
 put_in_sound V E cl c so en C k t d r ls s w n u fine i a fw ft fo =
     let ct : Term = apply (const n (drop 1 ls)) (take r.params s.before) in
