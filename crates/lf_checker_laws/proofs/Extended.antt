@@ -17,7 +17,7 @@ use Rattle.lf_env.specs.Calls.{Mode, checked, unchecked, Calls, Seen, known, unk
 use Rattle.lf_env.specs.Whnf.{Progress, stays, next, ends, Recursor, Split, fire_rule, fire_detail, fire_seen, fire_head, fire, put_in, put_in_seen, is_prop_level, like_k, or_like_k, at_major, shared, split, recursor_turn, operated, on_numbers, operands, literal_turn, by_body, delta_turn, detail_turn, constant_turn, head_turn, whnf_turn, turn_limit, whnf_loop, whnf_body}
 use Rattle.lf_env.specs.Infer.{of_constant, sort_of, is_type, argument_fits, value_fits, infer_body}
 use Rattle.lf_env.specs.Equal.{Verdict, decided, again, undecided, decided_by, or_else, decides, when_true, if_true, and_then, equal_binders, by_form, by_whnf, proposition_of, proves, by_proofs, expanded, expansion_of, eta_expansion, against_left, against_right, by_eta, by_predecessors, by_literals, equal_all, by_arguments, Definition, of_body, definition_seen, definition_of, by_height, by_unfolding, by_types, by_heads, equal_turn, equal_loop, equal_body}
-use Rattle.lf_env.specs.Normalize.{normalize_all, normalize_body_of_binder, normalize_parts, normalize_body}
+use Rattle.lf_env.specs.Normalize.{normalize_all, normalize_body_of_binder, normalize_arguments, normalize_parts, normalize_body}
 use Rattle.lf_env.specs.Checker.{turn, calls, unless_there, add_header, body_height, seen_height, greatest_height, height_of, check_value, add_decl}
 use Rattle.lf_checker_laws.specs.Extension.{Kept, Agree, AgreeOn}
 use Rattle.lf_checker_laws.proofs.Kept.{kept_self, kept_then, kept_caught, kept_named, kept_spend, kept_choose, kept_on_pi, see_kept, body_kept, kept_seen, kept_body}
@@ -295,10 +295,13 @@ kept_normalize_all c d a C (x ∷ xs) u =
 kept_normalize_binder : (c d : Calls) → Agree c d → (C : Context) (A b : Term) (u : ℕ) → Kept (normalize_body_of_binder c C A b u) (normalize_body_of_binder d C A b u)
 kept_normalize_binder c d a C A b u = search (kept, a.normalize) depth 8
 
+kept_normalize_arguments : (c d : Calls) → Agree c d → (C : Context) (t : Term) (u : ℕ) → Kept (normalize_arguments c C t u) (normalize_arguments d C t u)
+kept_normalize_arguments c d a C t u = search (kept, kept_normalize_all c d a) depth 8
+
 kept_parts : (c d : Calls) → Agree c d → (C : Context) (t : Term) (u : ℕ) → Kept (normalize_parts c C t u) (normalize_parts d C t u)
 kept_parts c d a C (lam x A b) u = search (kept, kept_normalize_binder c d a, a.normalize) depth 8
 kept_parts c d a C (pi x A b) u = search (kept, kept_normalize_binder c d a, a.normalize) depth 8
-kept_parts c d a C _ u = search (kept, kept_normalize_all c d a) depth 8
+kept_parts c d a C t u = kept_normalize_arguments c d a C t u
 
 kept_normalize : (c d : Calls) → Agree c d → (C : Context) (t : Term) (u : ℕ) → Kept (normalize_body c C t u) (normalize_body d C t u)
 unfolding normalize_body

@@ -10,3 +10,6 @@ pub mod Ends
 pub mod Views
 pub mod Reduces
 pub mod Turns
+pub mod Types
+pub mod Normals
+pub mod Equals

@@ -1,10 +1,11 @@
 -- What holds of a run's value, through the ways to put runs together.
-use Rattle.std.proofs.Common.{◌≡◌, ℕ, ◌-◌, nat_lt, Bool, true, false, refl, Option, Some, None, List, []}
+use Rattle.std.proofs.Common.{◌≡◌, ℕ, ◌-◌, nat_lt, Bool, true, false, length, refl, sym, subst, Option, Some, None, List, []}
 use Rattle.std.proofs.lemmas.Bool.{cond_both}
 use Rattle.lf_core.specs.Term.{Path, Universe, Term, sort, pi}
 use Rattle.lf_core.specs.Size.{node_count, depth}
 use Rattle.lf_core.specs.Spine.{apply}
-use Rattle.lf_env.specs.Run.{Answer, done, refused, out, need, Run, go_on, spend, caught, named_in, choose, put, made_before, made, greatest_depth, gives, gives_up}
+use Rattle.lf_env.specs.Run.{Answer, done, refused, out, need, Run, go_on, spend, caught, named_in, choose, put, made_before, made, greatest_depth, gives, gives_up, greatest_variable, opening}
+use Rattle.lf_core.specs.Environment.{Context, opened}
 use Rattle.lf_env.specs.Infer.{on_pi, on_sort}
 use Rattle.lf_env.specs.Equal.{and_then}
 use Rattle.lf_checker_laws.specs.Soundness.{Post}
@@ -81,3 +82,16 @@ post_on_pi Q F _ k u h = tt
 pub post_on_sort : (Q : Universe → Type 0) (F S : Term) (u : ℕ) → ((l : Universe) → S ≡ sort l → Q l) → Post Q (on_sort F S u)
 post_on_sort Q F (sort l) u h = h l refl
 post_on_sort Q F _ u h = tt
+
+-- What goes on from a term that is put together, made or opened.
+pub post_put_then : {B : Type 0} (Q : B → Type 0) (t : Term) (f : Term → Run B) (u : ℕ) → ((v : ℕ) → Post Q (f t v)) → Post Q (go_on (put t u) f)
+post_put_then Q t f u h = post_then (λ z. z ≡ t) Q (put t u) f (post_put (λ z. z ≡ t) t u refl) λ z v e. subst (λ y. Post Q (f y v)) (sym e) (h v)
+
+pub post_made_then : {B : Type 0} (Q : B → Type 0) (t : Term) (f : Term → Run B) (u : ℕ) → ((v : ℕ) → Post Q (f t v)) → Post Q (go_on (made t u) f)
+post_made_then Q t f u h = post_then (λ z. z ≡ t) Q (made t u) f (post_made (λ z. z ≡ t) t u refl) λ z v e. subst (λ y. Post Q (f y v)) (sym e) (h v)
+
+pub post_opening : (Q : Term → Type 0) (C : Context) (b : Term) (u : ℕ) → Q (opened C b) → Post Q (opening C b u)
+post_opening Q C b u h = post_choose Q (nat_lt greatest_variable (length C)) gives_up (made (opened C b)) u (λ e. tt) (λ e. post_made Q (opened C b) u h)
+
+pub post_opening_then : {B : Type 0} (Q : B → Type 0) (C : Context) (b : Term) (f : Term → Run B) (u : ℕ) → ((v : ℕ) → Post Q (f (opened C b) v)) → Post Q (go_on (opening C b u) f)
+post_opening_then Q C b f u h = post_then (λ z. z ≡ opened C b) Q (opening C b u) f (post_opening (λ z. z ≡ opened C b) C b u refl) λ z v e. subst (λ y. Post Q (f y v)) (sym e) (h v)

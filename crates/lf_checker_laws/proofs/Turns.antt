@@ -144,7 +144,7 @@ abbrev NumberIs : View → Environment → Context → Term → Option ℕ → T
 NumberIs V E C t (Some n) = Equal E C t (lit n) × Held V E nat
 NumberIs V E C t None = Unit {0}
 
-zero_parts : (V : View) (E : Environment) (n : Path) (ls : List Universe) → HeldBeside V E n → const n ls ≡ nat_zero → Held V E nat
+pub zero_parts : (V : View) (E : Environment) (n : Path) (ls : List Universe) → HeldBeside V E n → const n ls ≡ nat_zero → Held V E nat
 zero_parts V E n ls h e = let e' : n ≡ zero_name = cc in h.zero e'
 
 number_is : (V : View) (E : Environment) (C : Context) (t : Term) → Fit V E C t → NumberIs V E C t (as_number t)
@@ -208,7 +208,7 @@ operands_sound V E c so C n x y rest u fine hb fx fy ft h =
     post_then (Reduct V E C y) Q (c.whnf true C y v) _ (so.whnf true C y v fine fy gs.1.0) λ b w hb'.
     numbers_sound V E C n x y (as_number a) (as_number b) rest w hb (number_from V E C x a (as_number a) ha.0 (number_is V E C a ha.1)) (number_from V E C y b (as_number b) hb'.0 (number_is V E C b hb'.1)) ft (h w)
 
-succ_sound : (V : View) (E : Environment) (C : Context) (n : Path) (k : ℕ) → Fit V E C (lit k) → (same (const n []) nat_succ && nat_lt (suc k) (2 ^ 128)) ≡ true → Goes V E C (app (const n []) (lit k)) (ends (lit (suc k)))
+pub succ_sound : (V : View) (E : Environment) (C : Context) (n : Path) (k : ℕ) → Fit V E C (lit k) → (same (const n []) nat_succ && nat_lt (suc k) (2 ^ 128)) ≡ true → Goes V E C (app (const n []) (lit k)) (ends (lit (suc k)))
 succ_sound V E C n k fk b =
     let p = and_parts (same (const n []) nat_succ) (nat_lt (suc k) (2 ^ 128)) b in
     let e : const n [] ≡ nat_succ = term_is (const n []) nat_succ p.0 in

@@ -27,6 +27,12 @@ normalize_body_of_binder c C A b = do
   n ← c.normalize (with C A) o
   made (abstract n (length C))
 
+abbrev pub normalize_arguments : Calls → Context → Term → Run Term
+normalize_arguments c C t = do
+  xs ← normalize_all c C (arguments_of t)
+  s ← put (apply (head_of t) xs)
+  gives (as_literal s)
+
 abbrev pub normalize_parts : Calls → Context → Term → Run Term
 normalize_parts c C (lam x A b) = do
   B ← c.normalize C A
@@ -36,10 +42,7 @@ normalize_parts c C (pi x A b) = do
   B ← c.normalize C A
   d ← normalize_body_of_binder c C A b
   put (pi x B d)
-normalize_parts c C t = do
-  xs ← normalize_all c C (arguments_of t)
-  s ← put (apply (head_of t) xs)
-  gives (as_literal s)
+normalize_parts c C t = normalize_arguments c C t
 
 unfoldable pub normalize_body : Calls → Context → Term → Run Term
 normalize_body c C t = do
