@@ -1,6 +1,6 @@
 -- What `equal` says yes to is equal.
 use Rattle.std.proofs.Common.{◌≡◌, ◌<◌, ◌^◌, ℕ, zero, suc, nat_eq, nat_lt, if◌then◌else◌, Bool, true, false, ◌&&◌, List, [], ◌∷◌, length, refl, sym, ap, subst, subst₂, ◌∙◌, arith, Option, Some, None}
-use Rattle.std.proofs.lemmas.Bool.{cond_both, eqb-true, and_parts}
+use Rattle.std.proofs.lemmas.Bool.{cond_both, eqb-true, ltb-true, and_parts}
 use Rattle.lf_core.specs.Term.{Path, Universe, level_zero, Term, bound, free, meta, sort, const, app, lam, pi, letin, lit}
 use Rattle.lf_core.specs.Same.{same, same_path}
 use Rattle.lf_core.specs.Substitution.{level_instantiate}
@@ -189,22 +189,22 @@ succ_equal : (E : Environment) (C : Context) (n : ℕ) (f t : Term) → suc n < 
 succ_equal E C n f t l e h =
     subst (λ z. Equal E C (lit (suc n)) (app z t)) (sym (term_is f nat_succ e)) (transitive (step (literal_succ n l) tt (has_type (literal (suc n)))) (applications (reflexive nat_succ) h))
 
-left_predecessors : (V : View) (E : Environment) (c : Calls) → Sound V E c → (C : Context) (n : ℕ) (f t : Term) (u : ℕ) → ContextFits V E C → Fit V E C (lit (suc n)) → Fit V E C (app f t) → Formed E C (app f t) → Post (Judged V E C (lit (suc n)) (app f t)) (by_predecessors f (c.equal C (lit n) t) u)
+left_predecessors : (V : View) (E : Environment) (c : Calls) → Sound V E c → (C : Context) (n : ℕ) (f t : Term) (u : ℕ) → ContextFits V E C → Fit V E C (lit (suc n)) → Fit V E C (app f t) → Formed E C (app f t) → Post (Judged V E C (lit (suc n)) (app f t)) (by_predecessors (suc n) f (c.equal C (lit n) t) u)
 left_predecessors V E c s C n f t u fine fa fb gb =
-    let fn : Fit V E C (lit n) = (tt, (fa.1.0, omega (arith, fa.1.1))) in
-    let Q : Verdict → Type 0 = Judged V E C (lit (suc n)) (app f t) in
-    post_choose Q (same f nat_succ) (decides (c.equal C (lit n) t)) (gives undecided) u
-    (λ e. decides_sound V E C (lit (suc n)) (app f t) (c.equal C (lit n) t) u
-      (post_map (Yes (Equal E C (lit n) t)) (Yes (Equal E C (lit (suc n)) (app f t))) (c.equal C (lit n) t u) (s.equal C (lit n) t u fine fn (fb.0.1, fb.1.1) (has_type (literal n)) (argument gb)) λ r k y. succ_equal E C n f t fa.1.1 e (k y)))
+    post_choose (Judged V E C (lit (suc n)) (app f t)) (same f nat_succ && nat_lt (suc n) (2 ^ 128)) (decides (c.equal C (lit n) t)) (gives undecided) u
+    (λ e.
+    let p = and_parts (same f nat_succ) (nat_lt (suc n) (2 ^ 128)) e in
+    decides_sound V E C (lit (suc n)) (app f t) (c.equal C (lit n) t) u
+    (post_map (Yes (Equal E C (lit n) t)) (Yes (Equal E C (lit (suc n)) (app f t))) (c.equal C (lit n) t u) (s.equal C (lit n) t u fine (tt, fa.1) (fb.0.1, fb.1.1) (has_type (literal n)) (argument gb)) λ r k y. succ_equal E C n f t (ltb-true (suc n) (2 ^ 128) p.1) p.0 (k y)))
     (λ e. tt)
 
-right_predecessors : (V : View) (E : Environment) (c : Calls) → Sound V E c → (C : Context) (n : ℕ) (f t : Term) (u : ℕ) → ContextFits V E C → Fit V E C (lit (suc n)) → Fit V E C (app f t) → Formed E C (app f t) → Post (Judged V E C (app f t) (lit (suc n))) (by_predecessors f (c.equal C t (lit n)) u)
+right_predecessors : (V : View) (E : Environment) (c : Calls) → Sound V E c → (C : Context) (n : ℕ) (f t : Term) (u : ℕ) → ContextFits V E C → Fit V E C (lit (suc n)) → Fit V E C (app f t) → Formed E C (app f t) → Post (Judged V E C (app f t) (lit (suc n))) (by_predecessors (suc n) f (c.equal C t (lit n)) u)
 right_predecessors V E c s C n f t u fine fa fb gb =
-    let fn : Fit V E C (lit n) = (tt, (fa.1.0, omega (arith, fa.1.1))) in
-    let Q : Verdict → Type 0 = Judged V E C (app f t) (lit (suc n)) in
-    post_choose Q (same f nat_succ) (decides (c.equal C t (lit n))) (gives undecided) u
-    (λ e. decides_sound V E C (app f t) (lit (suc n)) (c.equal C t (lit n)) u
-      (post_map (Yes (Equal E C t (lit n))) (Yes (Equal E C (app f t) (lit (suc n)))) (c.equal C t (lit n) u) (s.equal C t (lit n) u fine (fb.0.1, fb.1.1) fn (argument gb) (has_type (literal n))) λ r k y. symmetric (succ_equal E C n f t fa.1.1 e (symmetric (k y)))))
+    post_choose (Judged V E C (app f t) (lit (suc n))) (same f nat_succ && nat_lt (suc n) (2 ^ 128)) (decides (c.equal C t (lit n))) (gives undecided) u
+    (λ e.
+    let p = and_parts (same f nat_succ) (nat_lt (suc n) (2 ^ 128)) e in
+    decides_sound V E C (app f t) (lit (suc n)) (c.equal C t (lit n)) u
+    (post_map (Yes (Equal E C t (lit n))) (Yes (Equal E C (app f t) (lit (suc n)))) (c.equal C t (lit n) u) (s.equal C t (lit n) u fine (fb.0.1, fb.1.1) (tt, fa.1) (argument gb) (has_type (literal n))) λ r k y. symmetric (succ_equal E C n f t (ltb-true (suc n) (2 ^ 128) p.1) p.0 (symmetric (k y)))))
     (λ e. tt)
 
 literals_sound : (V : View) (E : Environment) (c : Calls) → Sound V E c → (C : Context) (a b : Term) (u : ℕ) → ContextFits V E C → Fit V E C a → Fit V E C b → Formed E C a → Formed E C b → Post (Judged V E C a b) (by_literals c C a b u)

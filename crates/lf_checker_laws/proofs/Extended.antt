@@ -1,5 +1,5 @@
 -- The extension law, function by function.
-use Rattle.std.proofs.Common.{◌≡◌, ℕ, zero, suc, Bool, true, false, if◌then◌else◌, ◌+◌, nat_eq, List, [], ◌∷◌, length, Option, Some, None, refl, sym, ap, subst}
+use Rattle.std.proofs.Common.{◌≡◌, ℕ, zero, suc, Bool, true, false, if◌then◌else◌, ◌+◌, ◌^◌, ◌&&◌, nat_eq, nat_lt, List, [], ◌∷◌, length, Option, Some, None, refl, sym, ap, subst}
 use Rattle.lf_core.specs.Term.{Path, Universe, Term, bound, free, meta, sort, const, app, lam, pi, letin, lit}
 use Rattle.lf_core.specs.Spine.{head_of, arguments_of}
 use Rattle.lf_core.specs.Same.{same}
@@ -212,12 +212,12 @@ kept_eta c d a C (lam y A b) r u = kept_to_left c d a C (lam y A b) r u
 kept_eta c d a C l (lam z B e) u = kept_to_right c d a C l (lam z B e) u
 kept_eta c d a C l r u = refl
 
-kept_predecessors : (f : Term) (m n : Run Bool) (u : ℕ) → Kept (m u) (n u) → Kept (by_predecessors f m u) (by_predecessors f n u)
-kept_predecessors f m n u h = kept_choose (same f nat_succ) (decides m) (gives undecided) (decides n) (gives undecided) u (kept_then (m u) (n u) _ _ h (λ r v. refl)) refl
+kept_predecessors : (n : ℕ) (f : Term) (m k : Run Bool) (u : ℕ) → Kept (m u) (k u) → Kept (by_predecessors n f m u) (by_predecessors n f k u)
+kept_predecessors n f m k u h = kept_choose (same f nat_succ && nat_lt n (2 ^ 128)) (decides m) (gives undecided) (decides k) (gives undecided) u (kept_then (m u) (k u) _ _ h (λ r v. refl)) refl
 
 kept_literals : (c d : Calls) → Agree c d → (C : Context) (l r : Term) (u : ℕ) → Kept (by_literals c C l r u) (by_literals d C l r u)
-kept_literals c d a C (lit (suc n)) (app f t) u = kept_predecessors f (c.equal C (lit n) t) (d.equal C (lit n) t) u (a.equal C (lit n) t u)
-kept_literals c d a C (app f t) (lit (suc n)) u = kept_predecessors f (c.equal C t (lit n)) (d.equal C t (lit n)) u (a.equal C t (lit n) u)
+kept_literals c d a C (lit (suc n)) (app f t) u = kept_predecessors (suc n) f (c.equal C (lit n) t) (d.equal C (lit n) t) u (a.equal C (lit n) t u)
+kept_literals c d a C (app f t) (lit (suc n)) u = kept_predecessors (suc n) f (c.equal C t (lit n)) (d.equal C t (lit n)) u (a.equal C t (lit n) u)
 kept_literals c d a C (lit m) (lit n) u = refl
 kept_literals c d a C (lit zero) (const n ls) u = refl
 kept_literals c d a C (const n ls) (lit zero) u = refl

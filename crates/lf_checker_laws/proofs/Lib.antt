@@ -13,3 +13,4 @@ pub mod Turns
 pub mod Types
 pub mod Normals
 pub mod Equals
+pub mod All

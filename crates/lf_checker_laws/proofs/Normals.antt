@@ -40,7 +40,7 @@ literal_sound V E C (const n ls) h =
     cond_both (same (const n ls) nat_zero) (lit 0) (const n ls) (Reduct V E C (const n ls))
     (λ b.
     let e : const n ls ≡ nat_zero = term_is (const n ls) nat_zero b in
-    (subst (λ z. Equal E C z (lit 0)) (sym e) (symmetric (step literal_zero tt (has_type (literal 0)))), (tt, (zero_parts V E n ls h.1.1 e, omega arith))))
+    (subst (λ z. Equal E C z (lit 0)) (sym e) (symmetric (step literal_zero tt (has_type (literal 0)))), (tt, zero_parts V E n ls h.1.1 e)))
     (λ b. (reflexive (const n ls), h))
 literal_sound V E C (app f (lit k)) h =
     cond_both (same f nat_succ && nat_lt (suc k) (2 ^ 128)) (lit (suc k)) (app f (lit k)) (Reduct V E C (app f (lit k)))
@@ -48,7 +48,7 @@ literal_sound V E C (app f (lit k)) h =
     let p = and_parts (same f nat_succ) (nat_lt (suc k) (2 ^ 128)) b in
     let e : f ≡ nat_succ = term_is f nat_succ p.0 in
     let l : suc k < 2 ^ 128 = ltb-true (suc k) (2 ^ 128) p.1 in
-    (subst (λ z. Equal E C (app z (lit k)) (lit (suc k))) (sym e) (symmetric (step (literal_succ k l) tt (has_type (literal (suc k))))), (tt, (h.1.1.0, l))))
+    (subst (λ z. Equal E C (app z (lit k)) (lit (suc k))) (sym e) (symmetric (step (literal_succ k l) tt (has_type (literal (suc k))))), (tt, h.1.1)))
     (λ b. (reflexive (app f (lit k)), h))
 literal_sound V E C _ h = (reflexive _, h)
 

@@ -30,7 +30,7 @@ use Rattle.lf_checker_laws.proofs.Runs.{post_then, post_map, post_both, Maybe, p
 use Rattle.lf_checker_laws.proofs.Fitting.{instantiate_fits, levels_fit, apply_fits, head_fits, arguments_fit, all_append, all_front, all_back, all_take, all_drop}
 use Rattle.lf_checker_laws.proofs.Forming.{AllFormed, formed_parts, formed_as, equal_apply}
 use Rattle.lf_checker_laws.proofs.Ends.{spine_of, Spine, TypeEnds, Ends}
-use Rattle.lf_checker_laws.proofs.Views.{body_is, found_is, operation_bounded}
+use Rattle.lf_checker_laws.proofs.Views.{body_is, found_is}
 
 abbrev pub Fit : View → Environment → Context → Term → Type 0
 Fit V E C t = Fits V E 0 (length C) t
@@ -144,7 +144,9 @@ fire_sound V E cl C c r ls s m u i fy sm ft =
 
 pub constructor_equal : (V : View) (E : Environment) (C : Context) (w : Term) → Fit V E C w → Equal E C w (constructor_of w)
 constructor_equal V E C (lit zero) h = step literal_zero tt (has_type (literal 0))
-constructor_equal V E C (lit (suc n)) h = step (literal_succ n h.1.1) tt (has_type (literal (suc n)))
+constructor_equal V E C (lit (suc n)) h =
+    cond_both (nat_lt (suc n) (2 ^ 128)) (app nat_succ (lit n)) (lit (suc n)) (Equal E C (lit (suc n)))
+    (λ e. step (literal_succ n (ltb-true (suc n) (2 ^ 128) e)) tt (has_type (literal (suc n)))) (λ e. reflexive (lit (suc n)))
 constructor_equal V E C (bound i) h = reflexive (bound i)
 constructor_equal V E C (free i) h = reflexive (free i)
 constructor_equal V E C (meta i) h = reflexive (meta i)
@@ -157,7 +159,8 @@ constructor_equal V E C (letin x A v b) h = reflexive (letin x A v b)
 
 pub constructor_arguments : (V : View) (E : Environment) (C : Context) (w : Term) → Fit V E C w → AllFit V E (length C) (arguments_of (constructor_of w))
 constructor_arguments V E C (lit zero) h = tt
-constructor_arguments V E C (lit (suc n)) h = ((tt, (h.1.0, omega (arith, h.1.1))), tt)
+constructor_arguments V E C (lit (suc n)) h =
+    cond_both (nat_lt (suc n) (2 ^ 128)) (app nat_succ (lit n)) (lit (suc n)) (λ t. AllFit V E (length C) (arguments_of t)) (λ e. ((tt, h.1), tt)) (λ e. tt)
 constructor_arguments V E C (bound i) h = tt
 constructor_arguments V E C (free i) h = tt
 constructor_arguments V E C (meta i) h = tt
@@ -170,7 +173,7 @@ constructor_arguments V E C (letin x A v b) h = tt
 
 pub constructor_scoped : (V : View) (E : Environment) (C : Context) (w : Term) → Fit V E C w → Scoped 0 (length C) (constructor_of w)
 constructor_scoped V E C (lit zero) h = tt
-constructor_scoped V E C (lit (suc n)) h = (tt, tt)
+constructor_scoped V E C (lit (suc n)) h = cond_both (nat_lt (suc n) (2 ^ 128)) (app nat_succ (lit n)) (lit (suc n)) (Scoped 0 (length C)) (λ e. (tt, tt)) (λ e. tt)
 constructor_scoped V E C (bound i) h = h.0
 constructor_scoped V E C (free i) h = h.0
 constructor_scoped V E C (meta i) h = h.0

@@ -27,7 +27,7 @@ use Rattle.lf_checker_laws.proofs.Runs.{post_then, post_map, post_choose}
 use Rattle.lf_checker_laws.proofs.Fitting.{instantiate_fits, levels_fit, apply_fits, head_fits, arguments_fit, all_front, all_back}
 use Rattle.lf_checker_laws.proofs.Forming.{AllFormed, formed_parts, formed_as, equal_apply}
 use Rattle.lf_checker_laws.proofs.Ends.{Ends}
-use Rattle.lf_checker_laws.proofs.Views.{body_is, operation_bounded}
+use Rattle.lf_checker_laws.proofs.Views.{body_is}
 use Rattle.lf_checker_laws.proofs.Reduces.{Fit, Goes, goes_from, goes_made, stepped, SplitIs, split_is, IsRecursor, Whole, fire_sound, constructor_equal, constructor_arguments, constructor_scoped, prop_is, IsLikeK, put_in_sound}
 
 -- ---- The K-like case.
@@ -148,7 +148,7 @@ pub zero_parts : (V : View) (E : Environment) (n : Path) (ls : List Universe) �
 zero_parts V E n ls h e = let e' : n ≡ zero_name = cc in h.zero e'
 
 number_is : (V : View) (E : Environment) (C : Context) (t : Term) → Fit V E C t → NumberIs V E C t (as_number t)
-number_is V E C (lit n) h = (reflexive (lit n), h.1.0)
+number_is V E C (lit n) h = (reflexive (lit n), h.1)
 number_is V E C (const n ls) h =
     cond_both (same (const n ls) nat_zero) (Some 0) None (NumberIs V E C (const n ls))
     (λ b.
@@ -181,7 +181,7 @@ false_beside V E = record { zero = λ e. absurd (other e); operation = λ i j r 
     other e = let f : same_path false_name zero_name ≡ same_path zero_name zero_name = ap (λ n. same_path n zero_name) e in no_false f
 
 value_fits : (V : View) (E : Environment) (C : Context) (n : Path) (i j : ℕ) (r : LitOut) → HeldBeside V E n → literal_operation n i j ≡ Some r → Fit V E C (literal_term r)
-value_fits V E C n i j (Nat k) h e = (tt, (h.operation i j (Nat k) e, operation_bounded n i j k e))
+value_fits V E C n i j (Nat k) h e = (tt, h.operation i j (Nat k) e)
 value_fits V E C n i j (Truth true) h e = (tt, (h.operation i j (Truth true) e, true_beside V E))
 value_fits V E C n i j (Truth false) h e = (tt, (h.operation i j (Truth false) e, false_beside V E))
 
@@ -213,7 +213,7 @@ succ_sound V E C n k fk b =
     let p = and_parts (same (const n []) nat_succ) (nat_lt (suc k) (2 ^ 128)) b in
     let e : const n [] ≡ nat_succ = term_is (const n []) nat_succ p.0 in
     let l : suc k < 2 ^ 128 = ltb-true (suc k) (2 ^ 128) p.1 in
-    (subst (λ z. Equal E C (app z (lit k)) (lit (suc k))) (sym e) (symmetric (step (literal_succ k l) tt (has_type (literal (suc k))))), (tt, (fk.1.0, l)))
+    (subst (λ z. Equal E C (app z (lit k)) (lit (suc k))) (sym e) (symmetric (step (literal_succ k l) tt (has_type (literal (suc k))))), (tt, fk.1))
 
 literal_turn_sound : (V : View) (E : Environment) (c : Calls) → Sound V E c → (C : Context) (n : Path) (ls : List Universe) (xs : List Term) (rest : Run Progress) (u : ℕ) → ContextFits V E C → HeldBeside V E n → AllFit V E (length C) xs
     → Formed E C (apply (const n ls) xs) → ((v : ℕ) → Post (Goes V E C (apply (const n ls) xs)) (rest v)) → Post (Goes V E C (apply (const n ls) xs)) (literal_turn c C n ls xs rest u)

@@ -1,4 +1,4 @@
--- What the views' answers tell of constants, and the operations' of numbers.
+-- What the views' answers tell of constants.
 use Rattle.std.proofs.Common.{◌≡◌, ℕ, ◌<◌, ◌^◌, Bool, true, false, nat_lt, if◌then◌else◌, Option, Some, None, option_and_then, refl, sym, ap, subst, ◌∙◌}
 use Rattle.std.proofs.lemmas.Bool.{cond_both, ltb-true}
 use Rattle.lf_core.specs.Term.{Path, Term}
@@ -38,35 +38,3 @@ body_is V n c v i q e =
 
 pub found_is : (c d : ConstInfo) → found c ≡ found d → c ≡ d
 found_is c d e = cc
-
-abbrev Bounded : LitOut → Type 0
-Bounded (Nat k) = k < 2 ^ 128
-Bounded (Truth b) = Unit {0}
-
-number_bounded : (m : ℕ) (r : LitOut) → number m ≡ Some r → Bounded r
-number_bounded m r =
-    cond_both (nat_lt m 340282366920938463463374607431768211456) (Some (Nat m)) None (λ o. o ≡ Some r → Bounded r)
-    (λ e q. let q' : Nat m ≡ r = cc in subst Bounded q' (ltb-true m 340282366920938463463374607431768211456 e))
-    (λ e q. absurd (cc))
-
-truth_bounded : (b : Bool) (r : LitOut) → Some (Truth b) ≡ Some r → Bounded r
-truth_bounded b r q = let q' : Truth b ≡ r = cc in subst Bounded q' tt
-
-computed_bounded : (f : Operation) (a b : ℕ) (r : LitOut) → compute f a b ≡ Some r → Bounded r
-computed_bounded Add a b r e = number_bounded _ r e
-computed_bounded Sub a b r e = number_bounded _ r e
-computed_bounded Mul a b r e = number_bounded _ r e
-computed_bounded Div a b r e = number_bounded _ r e
-computed_bounded Mod a b r e = number_bounded _ r e
-computed_bounded Beq a b r e = truth_bounded _ r e
-computed_bounded Ble a b r e = truth_bounded _ r e
-computed_bounded Land a b r e = number_bounded _ r e
-computed_bounded Lor a b r e = number_bounded _ r e
-computed_bounded Xor a b r e = number_bounded _ r e
-
-found_bounded : (o : Option Operation) (a b : ℕ) (r : LitOut) → option_and_then (λ f. compute f a b) o ≡ Some r → Bounded r
-found_bounded (Some f) a b r e = computed_bounded f a b r e
-found_bounded None a b r e = absurd (cc)
-
-pub operation_bounded : (n : Path) (a b k : ℕ) → literal_operation n a b ≡ Some (Nat k) → k < 2 ^ 128
-operation_bounded n a b k e = found_bounded (operation_of n) a b (Nat k) e

@@ -1,5 +1,5 @@
 -- Soundness of the checker: its answers have derivations, over a list of constants that the view knows and that names nothing outside it.
-use Rattle.std.specs.Prelude.{◌≡◌, ◌+◌, ◌<◌, ◌^◌, ℕ, Bool as Truth, zero, suc, true, false, Some, List, [], ◌∷◌, length, slice_get, Contains, codes}
+use Rattle.std.specs.Prelude.{◌≡◌, ◌+◌, ℕ, Bool as Truth, zero, suc, true, false, Some, List, [], ◌∷◌, length, slice_get, Contains, codes}
 use Rattle.lf_core.specs.Term.{Path, Universe, Term, bound, free, meta, sort, const, app, lam, pi, letin, lit}
 use Rattle.lf_core.specs.Spine.{apply}
 use Rattle.lf_core.specs.Scope.{Scoped}
@@ -40,10 +40,10 @@ pub record HeldBeside (V : View) (E : Environment) (n : Path) : Type 0 where
   pub zero : n ≡ zero_name → Held V E nat
   pub operation : (i j : ℕ) (r : LitOut) → literal_operation n i j ≡ Some r → HeldValue V E r
 
--- E has each constant of the view that the term names; a literal names `Nat` and is below 2^128.
+-- E has each constant of the view that the term names; a literal names `Nat`.
 abbrev pub Names : View → Environment → Term → Type 0
 Names V E (const n ls) = Held V E n × HeldBeside V E n
-Names V E (lit k) = Held V E nat × (k < 2 ^ 128)
+Names V E (lit k) = Held V E nat
 Names V E (app f a) = Names V E f × Names V E a
 Names V E (lam x A b) = Names V E A × Names V E b
 Names V E (pi x A B) = Names V E A × Names V E B

@@ -2,6 +2,7 @@
 #![tactic(auto)]
 
 ghost use Rattle.lf_checker_laws.specs.Extension.{ExtensionLaw};
+ghost use Rattle.lf_checker_laws.specs.Soundness.{Soundness};
 ghost use Rattle.lf_checker_laws.specs.Worked.{Answers};
 
 /// Answers that are known from elsewhere.
@@ -13,5 +14,12 @@ pub fn worked_answers()
 /// What the checker answers on a view it answers on each view that extends it, units included.
 pub fn checker_is_extended()
     ensures { ExtensionLaw }
+{
+}
+
+/// What the checker answers has a derivation: a type of `infer` is a type, terms that are `equal` are equal, and weak head and
+/// normal forms are equal to the term. They name no constant of the view outside the list.
+pub fn checker_is_sound()
+    ensures { Soundness }
 {
 }

@@ -1,5 +1,5 @@
 -- Whether two terms are equal: the first rule that decides.
-use Rattle.std.specs.Prelude.{ℕ, zero, suc, Bool, true, false, ◌&&◌, nat_eq, nat_lt, if◌then◌else◌, Option, Some, None, List, [], ◌∷◌, length}
+use Rattle.std.specs.Prelude.{ℕ, ◌^◌, zero, suc, Bool, true, false, ◌&&◌, nat_eq, nat_lt, if◌then◌else◌, Option, Some, None, List, [], ◌∷◌, length}
 use Rattle.lf_core.specs.Term.{Path, Universe, level_zero, Term, bound, sort, const, app, lam, pi, lit}
 use Rattle.lf_core.specs.Same.{same, same_path}
 use Rattle.lf_core.specs.Substitution.{level_instantiate}
@@ -132,16 +132,16 @@ by_eta c C a (lam y B d) = do
   against_right c C (lam y B d) e
 by_eta c C a b = gives undecided
 
--- A number against the successor of a term: their predecessors.
-abbrev pub by_predecessors : Term → Run Bool → Run Verdict
-by_predecessors f m = choose (same f nat_succ) (decides m) (gives undecided)
+-- A number below 2^128 against the successor of a term: their predecessors.
+abbrev pub by_predecessors : ℕ → Term → Run Bool → Run Verdict
+by_predecessors n f m = choose (same f nat_succ && nat_lt n (2 ^ 128)) (decides m) (gives undecided)
 
 abbrev pub by_literals : Calls → Context → Term → Term → Run Verdict
 by_literals c C (lit m) (lit n) = gives (decided false)
 by_literals c C (lit zero) (const n ls) = gives (when_true (same (const n ls) nat_zero))
 by_literals c C (const n ls) (lit zero) = gives (when_true (same (const n ls) nat_zero))
-by_literals c C (lit (suc n)) (app f t) = by_predecessors f (c.equal C (lit n) t)
-by_literals c C (app f t) (lit (suc n)) = by_predecessors f (c.equal C t (lit n))
+by_literals c C (lit (suc n)) (app f t) = by_predecessors (suc n) f (c.equal C (lit n) t)
+by_literals c C (app f t) (lit (suc n)) = by_predecessors (suc n) f (c.equal C t (lit n))
 by_literals c C a b = gives undecided
 
 -- One head: constants of one name with levels that are the same, or one tree.

@@ -52,10 +52,10 @@ split n [] = None
 split zero (x ∷ xs) = Some (record { before = []; major = x; after = xs })
 split (suc n) (x ∷ xs) = one_before x (split n xs)
 
--- The constructor that a literal is.
+-- The constructor that a literal below 2^128 is.
 abbrev pub constructor_of : Term → Term
 constructor_of (lit zero) = nat_zero
-constructor_of (lit (suc n)) = app nat_succ (lit n)
+constructor_of (lit (suc n)) = if nat_lt (suc n) (2 ^ 128) then app nat_succ (lit n) else lit (suc n)
 constructor_of t = t
 
 -- The parameters, motive and minor premises, which a rule takes.
