@@ -14,3 +14,4 @@ pub mod Types
 pub mod Normals
 pub mod Equals
 pub mod All
+pub mod Declared

@@ -1,3 +1,4 @@
 pub mod Worked
 pub mod Extension
 pub mod Soundness
+pub mod Declarations

@@ -1,6 +1,7 @@
 //! Laws on the plain checker: each public function's contract is one of them.
 #![tactic(auto)]
 
+ghost use Rattle.lf_checker_laws.specs.Declarations.{AcceptedIsDerived, DerivedIsClosedList};
 ghost use Rattle.lf_checker_laws.specs.Extension.{ExtensionLaw};
 ghost use Rattle.lf_checker_laws.specs.Soundness.{Soundness};
 ghost use Rattle.lf_checker_laws.specs.Worked.{Answers};
@@ -21,5 +22,17 @@ pub fn checker_is_extended()
 /// normal forms are equal to the term. They name no constant of the view outside the list.
 pub fn checker_is_sound()
     ensures { Soundness }
+{
+}
+
+/// A derived list of constants that the view knows is one over which the checker is sound.
+pub fn derived_lists_are_closed_lists()
+    ensures { DerivedIsClosedList }
+{
+}
+
+/// What `add_header` and `add_decl` accept over a derived list keeps it derived, under a name that is new.
+pub fn accepted_is_derived()
+    ensures { AcceptedIsDerived }
 {
 }
