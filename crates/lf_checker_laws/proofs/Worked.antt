@@ -23,6 +23,7 @@ answers = record {
   proofs = refl;
   members = refl;
   recursor = refl;
+  units_per_number = refl;
   stuck = refl;
   like_k = refl;
   not_like_k = refl;

@@ -1,5 +1,5 @@
 -- Answers of the checker that are known from elsewhere: of the document, and of a small base of numbers and of equality.
-use Rattle.std.specs.Prelude.{◌≡◌, ℕ, zero, suc, true, false, Option, Some, None, List, [], ◌∷◌, ◌++◌, codes}
+use Rattle.std.specs.Prelude.{◌≡◌, ◌-◌, ◌+◌, ℕ, zero, suc, true, false, Option, Some, None, List, [], ◌∷◌, ◌++◌, codes}
 use Rattle.lf_core.specs.Term.{Path, Universe, level_zero, level_succ, level_imax, level_param, Term, bound, free, meta, sort, const, app, lam, pi, letin, lit}
 use Rattle.lf_core.specs.Spine.{apply}
 use Rattle.lf_core.specs.Environment.{nat, nat_type, nat_zero, nat_succ}
@@ -171,6 +171,14 @@ tower (suc n) = sum (tower n) (lit 1)
 abbrev pub count_down : Term → Term
 count_down n = rec_at one (lam x nat_type nat_type) (lit 0) (lam x nat_type (lam x nat_type (app nat_succ (bound 0)))) n
 
+-- The units that counting down from k takes.
+abbrev pub left_of : {A : Type 0} → Answer A → ℕ
+left_of (done a n) = n
+left_of _ = 0
+
+abbrev pub units_of : ℕ → ℕ
+units_of k = 100000 - left_of (normalize V 512 [] (count_down (lit k)) 100000)
+
 abbrev pub transported : Term → Term
 transported h = app (app (app (app (app (app (const eq_rec_name (one ∷ one ∷ [])) nat_type) (lit 0)) (lam x nat_type (lam x prop nat_type))) (lit 7)) (lit 0)) h
 
@@ -199,6 +207,8 @@ pub record Answers : Type 0 where
   -- two proofs of a proposition, and two members of a type
   pub proofs : given (equal V 512 (prop ∷ free 0 ∷ free 0 ∷ []) (free 1) (free 2) 100) ≡ Some true
   pub members : given (equal V 512 (sort one ∷ free 0 ∷ free 0 ∷ []) (free 1) (free 2) 100) ≡ Some false
+  -- each further number costs 220 units
+  pub units_per_number : units_of 20 ≡ units_of 10 + 2200
   -- a recursor on 3, and one on a variable, which is stuck after a call for the variable
   pub recursor : given (normalize V 512 [] (count_down (lit 3)) 1000) ≡ Some (lit 3)
   pub stuck : whnf V 512 (nat_type ∷ []) (count_down (free 0)) 2 ≡ done (count_down (free 0)) 0
