@@ -15,3 +15,4 @@ pub mod Normals
 pub mod Equals
 pub mod All
 pub mod Declared
+pub mod Calm

@@ -2,3 +2,4 @@ pub mod Worked
 pub mod Extension
 pub mod Soundness
 pub mod Declarations
+pub mod Calm

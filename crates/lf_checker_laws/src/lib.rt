@@ -1,6 +1,7 @@
 //! Laws on the plain checker: each public function's contract is one of them.
 #![tactic(auto)]
 
+ghost use Rattle.lf_checker_laws.specs.Calm.{OnlyInferenceRefuses};
 ghost use Rattle.lf_checker_laws.specs.Declarations.{AcceptedIsDerived, DerivedIsClosedList};
 ghost use Rattle.lf_checker_laws.specs.Extension.{ExtensionLaw};
 ghost use Rattle.lf_checker_laws.specs.Soundness.{Soundness};
@@ -34,5 +35,11 @@ pub fn derived_lists_are_closed_lists()
 /// What `add_header` and `add_decl` accept over a derived list keeps it derived, under a name that is new.
 pub fn accepted_is_derived()
     ensures { AcceptedIsDerived }
+{
+}
+
+/// `whnf`, `equal` and `normalize` never answer with a refusal.
+pub fn only_inference_refuses()
+    ensures { OnlyInferenceRefuses }
 {
 }
