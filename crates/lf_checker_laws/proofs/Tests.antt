@@ -1,7 +1,7 @@
 -- What the tests of names, levels and terms tell.
-use Rattle.std.proofs.Common.{◌≡◌, ℕ, ◌≤◌, Bool, true, false, ◌&&◌, ◌||◌, nat_eq, nat_lt, length, List, [], ◌∷◌, refl, sym, ap, ap₂, true≢false}
+use Rattle.std.proofs.Common.{◌≡◌, ℕ, ◌≤◌, Bool, true, false, ◌&&◌, ◌||◌, nat_eq, nat_lt, length, List, [], ◌∷◌, refl, sym, ap, ap₂, ◌∙◌, ◌↔◌, arith, true≢false}
 use Rattle.std.specs.Str.{bytes_eq}
-use Rattle.std.proofs.lemmas.Bool.{cond_both, eqb-true, ltb-false, and_parts, or_parts}
+use Rattle.std.proofs.lemmas.Bool.{cond_both, eqb-true, ltb-true, ltb-false, and_parts, or_parts, or_from, cond-false, false_from_ne_true}
 use Rattle.std.proofs.lemmas.Slice.Eq.{bytes_eq-Decides}
 use Rattle.lf_core.specs.Term.{Path, Universe, level_zero, level_succ, level_max, level_imax, level_param, level_meta, Term, bound, free, meta, sort, const, app, lam, pi, letin, lit}
 use Rattle.lf_core.specs.Level.{value_of, Same, AllSame}
@@ -12,6 +12,7 @@ use Rattle.lf_core.specs.declared.binder.BinderKind.TheVariants.{Explicit, Impli
 use Rattle.lf_level.specs.Parameters.{HasNoMetavariable, parameters_of}
 use Rattle.lf_level.proofs.Decided.{same_answer}
 use Rattle.lf_core.specs.Size.{level_depth}
+use Rattle.lf_checker_laws.specs.Levels.{LevelTestIsExact}
 use Rattle.lf_env.specs.LevelTest.{has_metavariable, both_orders, is_too_great, is_same, are_same}
 
 pub no_false : {P : Type 0} → false ≡ true → P
@@ -101,3 +102,33 @@ levels_same [] [] h = tt
 levels_same (l ∷ ls) (m ∷ ms) h = let p = and_parts (is_same l m) (are_same ls ms) h in (level_same l m p.0, levels_same ls ms p.1)
 levels_same [] (m ∷ ms) h = no_false h
 levels_same (l ∷ ls) [] h = no_false h
+
+-- And the test passes where they are, within its limits.
+
+found_none : (l : Universe) → HasNoMetavariable l → has_metavariable l ≡ false
+found_none level_zero h = refl
+found_none (level_succ l) h = found_none l h
+found_none (level_max l m) h = or_from (has_metavariable l) (has_metavariable m) (found_none l h.0) (found_none m h.1)
+found_none (level_imax l m) h = or_from (has_metavariable l) (has_metavariable m) (found_none l h.0) (found_none m h.1)
+found_none (level_param k) h = refl
+found_none (level_meta k) h = absurd h
+
+not_above : (a b : ℕ) → b ≤ a → nat_lt a b ≡ false
+not_above a b h = false_from_ne_true (nat_lt a b) (λ e. let l = ltb-true a b e in omega arith)
+
+within : (l m : Universe) → level_depth l ≤ 1024 → level_depth m ≤ 1024 → length (parameters_of l m) ≤ 8 → is_too_great l m ≡ false
+within l m d d' n =
+    or_from (nat_lt 8 (length (parameters_of l m))) (nat_lt 1024 (level_depth l) || nat_lt 1024 (level_depth m)) (not_above 8 (length (parameters_of l m)) n)
+    (or_from (nat_lt 1024 (level_depth l)) (nat_lt 1024 (level_depth m)) (not_above 1024 (level_depth l) d) (not_above 1024 (level_depth m) d'))
+
+test_is : (l m : Universe) → HasNoMetavariable l → HasNoMetavariable m → level_depth l ≤ 1024 → level_depth m ≤ 1024 → length (parameters_of l m) ≤ 8 → is_same l m ≡ both_orders l m
+unfolding is_same
+test_is l m o o' d d' n =
+    cond-false (has_metavariable l || has_metavariable m) (same_universe l m) _ (or_from (has_metavariable l) (has_metavariable m) (found_none l o) (found_none m o'))
+    ∙ cond-false (is_too_great l m) false (both_orders l m) (within l m d d' n)
+
+level_exact : (l m : Universe) → HasNoMetavariable l → HasNoMetavariable m → level_depth l ≤ 1024 → level_depth m ≤ 1024 → length (parameters_of l m) ≤ 8 → (is_same l m ≡ true) ↔ Same l m
+level_exact l m o o' d d' n = same_answer l m (parameters_of l m) (is_same l m) refl o o' d d' (test_is l m o o' d d' n)
+
+pub level_test_is_exact : LevelTestIsExact
+level_test_is_exact = record { sound = level_same; exact = level_exact }

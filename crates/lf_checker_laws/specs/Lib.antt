@@ -3,3 +3,4 @@ pub mod Extension
 pub mod Soundness
 pub mod Declarations
 pub mod Calm
+pub mod Levels

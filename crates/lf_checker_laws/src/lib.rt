@@ -4,6 +4,7 @@
 ghost use Rattle.lf_checker_laws.specs.Calm.{OnlyInferenceRefuses};
 ghost use Rattle.lf_checker_laws.specs.Declarations.{AcceptedIsDerived, DerivedIsClosedList};
 ghost use Rattle.lf_checker_laws.specs.Extension.{ExtensionLaw};
+ghost use Rattle.lf_checker_laws.specs.Levels.{LevelTestIsExact};
 ghost use Rattle.lf_checker_laws.specs.Soundness.{Soundness};
 ghost use Rattle.lf_checker_laws.specs.Worked.{Answers};
 
@@ -41,5 +42,11 @@ pub fn accepted_is_derived()
 /// `whnf`, `equal` and `normalize` never answer with a refusal.
 pub fn only_inference_refuses()
     ensures { OnlyInferenceRefuses }
+{
+}
+
+/// The checker's test of levels passes exactly what is the same under every assignment, within its limits.
+pub fn level_test_is_exact()
+    ensures { LevelTestIsExact }
 {
 }
