@@ -1,5 +1,5 @@
 -- The checker is sound, by one induction on the nesting that is left.
-use Rattle.std.proofs.Common.{ℕ, zero, suc}
+use Rattle.std.proofs.Common.{zero, suc}
 use Rattle.lf_core.specs.Environment.{Environment}
 use Rattle.lf_env.specs.View.{View}
 use Rattle.lf_env.specs.Calls.{checked, Calls}

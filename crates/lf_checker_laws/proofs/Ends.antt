@@ -8,7 +8,7 @@ use Rattle.lf_core.specs.Environment.{Context}
 use Rattle.lf_core.specs.declared.binder.Binder.{Binder}
 use Rattle.lf_core.specs.declared.constant.ConstInfo.{ConstInfo}
 use Rattle.lf_env.specs.View.{View, Lookup, found, absent, need_body, need_real, lookup_of}
-use Rattle.lf_env.specs.Run.{Run, ◌>>=◌, go_on, choose, refuse, wrong_levels, made}
+use Rattle.lf_env.specs.Run.{Run, ◌>>=◌, refuse, wrong_levels, made}
 use Rattle.lf_env.specs.Calls.{checked, Calls, seen_as}
 use Rattle.lf_env.specs.Whnf.{turn_limit, whnf_body}
 use Rattle.lf_env.specs.Infer.{of_constant, on_pi, argument_fits, infer_body}

@@ -1,5 +1,5 @@
 -- What `equal` says yes to is equal.
-use Rattle.std.proofs.Common.{◌≡◌, ◌<◌, ◌^◌, ℕ, zero, suc, nat_eq, nat_lt, if◌then◌else◌, Bool, true, false, ◌&&◌, List, [], ◌∷◌, length, refl, sym, ap, subst, subst₂, ◌∙◌, arith, Option, Some, None}
+use Rattle.std.proofs.Common.{◌≡◌, ◌<◌, ◌^◌, ℕ, zero, suc, nat_eq, nat_lt, if◌then◌else◌, Bool, true, false, ◌&&◌, List, [], ◌∷◌, length, refl, sym, subst, subst₂, arith, Option, Some, None}
 use Rattle.std.proofs.lemmas.Bool.{cond_both, eqb-true, ltb-true, and_parts}
 use Rattle.lf_core.specs.Term.{Path, Universe, level_zero, Term, bound, free, meta, sort, const, app, lam, pi, letin, lit}
 use Rattle.lf_core.specs.Same.{same, same_path}
@@ -8,23 +8,21 @@ use Rattle.lf_core.specs.Spine.{apply, head_of, arguments_of}
 use Rattle.lf_core.specs.Environment.{Environment, Context, with, opened, nat_zero, nat_succ}
 use Rattle.lf_core.specs.Step.{Step, delta, literal_zero, literal_succ}
 use Rattle.lf_core.specs.Judgment.{Equal, reflexive, symmetric, transitive, applications, lambdas, pis, sorts, constants, step, eta, proof_irrelevance, HasType, literal, conversion, Formed, has_type, is_type, equal_to, argument, lambda_domain, lambda_body, pi_domain, pi_codomain}
-use Rattle.lf_core.specs.declared.binder.Binder.{Binder}
 use Rattle.lf_core.specs.declared.constant.ConstInfo.{ConstInfo}
 use Rattle.lf_judgment_laws.proofs.Variables.{rebuilt, scoped_up}
 use Rattle.lf_env.specs.View.{View, Lookup, found, absent, need_body, need_real, lookup_of, KnownBody, value, opaque, unresolved, body_of}
-use Rattle.lf_env.specs.LevelTest.{is_same, are_same}
-use Rattle.lf_env.specs.Run.{Run, ◌>>=◌, gives, choose, caught, attempt, made, opening}
-use Rattle.lf_env.specs.Calls.{checked, Calls, seen_as, see}
+use Rattle.lf_env.specs.LevelTest.{are_same}
+use Rattle.lf_env.specs.Run.{Run, ◌>>=◌, gives, choose, caught}
+use Rattle.lf_env.specs.Calls.{checked, Calls, seen_as}
 use Rattle.lf_env.specs.Whnf.{turn_limit, is_true}
 use Rattle.lf_env.specs.Equal.{Verdict, decided, again, undecided, decided_by, or_else, decides, when_true, if_true, and_then, equal_binders, by_form, by_whnf, is_prop, flat, proposition_of, proves, by_proofs, expanded, expansion_of, eta_expansion, against_left, against_right, by_eta, by_predecessors, by_literals, same_head, equal_all, by_arguments, Definition, of_body, definition_seen, definition_of, levels_of, unfolded, unfold_left, unfold_right, unfold_both, by_height, by_unfolding, by_types, by_heads, equal_turn, equal_loop, equal_body}
 use Rattle.lf_checker_laws.specs.Soundness.{Names, Fits, AllFit, ContextFits, ClosedList, Post, Typed, Reduct, Sound}
 use Rattle.lf_checker_laws.proofs.Tests.{no_false, path_is, term_is, level_same, levels_same}
 use Rattle.lf_checker_laws.proofs.Runs.{post_then, post_map, Maybe, post_caught, post_choose, post_made_then, post_made_before, post_opening_then, Yes, post_and}
 use Rattle.lf_checker_laws.proofs.Fitting.{opened_fits, context_with, head_fits, arguments_fit, levels_fit}
-use Rattle.lf_checker_laws.proofs.Forming.{AllFormed, formed_arguments, formed_as, equal_apply}
+use Rattle.lf_checker_laws.proofs.Forming.{AllFormed, formed_arguments}
 use Rattle.lf_checker_laws.proofs.Views.{body_is}
 use Rattle.lf_checker_laws.proofs.Reduces.{Fit, stepped}
-use Rattle.lf_checker_laws.proofs.Turns.{zero_parts}
 use Rattle.lf_checker_laws.proofs.Normals.{ArgumentsEqual}
 
 -- A verdict on a and b.

@@ -1,14 +1,13 @@
 -- Terms that are in scope and name only the list, through binders, levels and applications.
-use Rattle.std.proofs.Common.{◌≡◌, ℕ, zero, suc, ◌+◌, ◌-◌, ◌≤◌, nat_eq, nat_lt, if◌then◌else◌, Bool, List, [], ◌∷◌, ◌++◌, length, Some, slice_get, take, drop, refl, sym, ap, subst, arith}
-use Rattle.lf_core.specs.Term.{Path, Universe, Term, bound, free, meta, sort, const, app, lam, pi, letin, lit}
+use Rattle.std.proofs.Common.{◌≡◌, ℕ, zero, suc, ◌+◌, ◌-◌, ◌≤◌, nat_eq, if◌then◌else◌, List, [], ◌∷◌, ◌++◌, length, Some, slice_get, take, drop, subst, arith}
+use Rattle.lf_core.specs.Term.{Universe, Term, bound, free, meta, sort, const, app, lam, pi, letin, lit}
 use Rattle.lf_core.specs.Substitution.{raise, instantiate_variable, instantiate_at, instantiate, abstract_at, abstract, level_instantiate}
 use Rattle.lf_core.specs.Spine.{apply, head_of, arguments_before, arguments_of}
 use Rattle.lf_core.specs.Scope.{Scoped}
 use Rattle.lf_core.specs.Environment.{Environment, Context, with, opened}
-use Rattle.lf_core.specs.declared.binder.Binder.{Binder}
 use Rattle.lf_judgment_laws.proofs.Variables.{by_eq, by_lt, scoped_up, scoped_instantiate, scoped_levels, length-with, scoped_opened, scoped_closed}
 use Rattle.lf_env.specs.View.{View}
-use Rattle.lf_checker_laws.specs.Soundness.{Held, HeldBeside, Names, Fits, AllFit, ContextFits}
+use Rattle.lf_checker_laws.specs.Soundness.{Names, Fits, AllFit, ContextFits}
 
 names_raise : (V : View) (E : Environment) (d n : ℕ) (t : Term) → Names V E t → Names V E (raise d n t)
 names_raise V E d n (bound i) h = by_lt (Names V E) i d (bound i) (bound (i + n)) (λ e. tt) (λ e. tt)

@@ -1,13 +1,9 @@
-pub mod Worked
-pub mod Kept
-pub mod Extended
-pub mod Extended_declarations
 pub mod Tests
 pub mod Runs
 pub mod Fitting
 pub mod Forming
-pub mod Ends
 pub mod Views
+pub mod Ends
 pub mod Reduces
 pub mod Turns
 pub mod Types
@@ -15,4 +11,4 @@ pub mod Normals
 pub mod Equals
 pub mod All
 pub mod Declared
-pub mod Calm
+pub mod Worked

@@ -1,7 +1,7 @@
 -- What `normalize` gives is equal to the term.
-use Rattle.std.proofs.Common.{◌≡◌, ◌<◌, ◌^◌, ℕ, suc, nat_lt, Bool, true, false, ◌&&◌, List, [], ◌∷◌, length, refl, sym, ap, subst, arith}
+use Rattle.std.proofs.Common.{◌≡◌, ◌<◌, ◌^◌, ℕ, suc, nat_lt, true, ◌&&◌, List, [], ◌∷◌, length, sym, subst}
 use Rattle.std.proofs.lemmas.Bool.{cond_both, ltb-true, and_parts}
-use Rattle.lf_core.specs.Term.{Path, Universe, Term, bound, free, meta, sort, const, app, lam, pi, letin, lit}
+use Rattle.lf_core.specs.Term.{Term, bound, free, meta, sort, const, app, lam, pi, letin, lit}
 use Rattle.lf_core.specs.Same.{same}
 use Rattle.lf_core.specs.Substitution.{abstract}
 use Rattle.lf_core.specs.Spine.{apply, head_of, arguments_of}
@@ -10,7 +10,7 @@ use Rattle.lf_core.specs.Step.{literal_zero, literal_succ}
 use Rattle.lf_core.specs.Judgment.{Equal, reflexive, symmetric, transitive, applications, lambdas, pis, step, literal, Formed, has_type, equal_to, lambda_domain, lambda_body, pi_domain, pi_codomain}
 use Rattle.lf_judgment_laws.proofs.Variables.{rebuilt, opened-abstract}
 use Rattle.lf_env.specs.View.{View}
-use Rattle.lf_env.specs.Run.{Run, gives, put, made, opening}
+use Rattle.lf_env.specs.Run.{gives}
 use Rattle.lf_env.specs.Calls.{Calls}
 use Rattle.lf_env.specs.Normalize.{normalize_all, as_literal, normalize_body_of_binder, normalize_arguments, normalize_parts, normalize_body}
 use Rattle.lf_checker_laws.specs.Soundness.{Fits, AllFit, ContextFits, Post, Reduct, Sound}
@@ -19,7 +19,7 @@ use Rattle.lf_checker_laws.proofs.Runs.{post_then, post_map, post_put, post_put_
 use Rattle.lf_checker_laws.proofs.Fitting.{opened_fits, closed_fits, context_with, apply_fits, head_fits, arguments_fit}
 use Rattle.lf_checker_laws.proofs.Forming.{AllFormed, formed_arguments}
 use Rattle.lf_checker_laws.proofs.Reduces.{Fit}
-use Rattle.lf_checker_laws.proofs.Turns.{zero_parts, succ_sound}
+use Rattle.lf_checker_laws.proofs.Turns.{zero_parts}
 
 -- Terms that are equal stay so with these arguments.
 abbrev pub ArgumentsEqual : Environment → Context → List Term → List Term → Type 0

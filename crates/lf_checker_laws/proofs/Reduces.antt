@@ -1,36 +1,31 @@
 -- What a turn of `whnf` gives is equal to what it began with.
-use Rattle.std.proofs.Common.{◌≡◌, ◌<◌, ◌^◌, ℕ, zero, suc, ◌+◌, nat_eq, nat_lt, Bool, true, false, ◌&&◌, if◌then◌else◌, List, [], ◌∷◌, ◌++◌, length, take, drop, slice_get, refl, sym, ap, subst, ◌∙◌, arith, Option, Some, None, is_some, length-take-le, Contains}
+use Rattle.std.proofs.Common.{◌≡◌, ◌^◌, ℕ, zero, suc, ◌+◌, nat_eq, nat_lt, Bool, true, false, ◌&&◌, List, [], ◌∷◌, ◌++◌, length, take, drop, slice_get, refl, sym, ap, subst, ◌∙◌, arith, Option, Some, None, length-take-le, Contains}
 use Rattle.std.proofs.lemmas.Bool.{cond_both, eqb-true, ltb-true, and_parts}
 use Rattle.lf_core.specs.Term.{Path, Universe, level_zero, Term, bound, free, meta, sort, const, app, lam, pi, letin, lit}
 use Rattle.lf_core.specs.Level.{Same}
-use Rattle.lf_core.specs.Same.{same, same_path}
-use Rattle.lf_core.specs.Substitution.{instantiate, level_instantiate}
+use Rattle.lf_core.specs.Same.{same_path}
+use Rattle.lf_core.specs.Substitution.{level_instantiate}
 use Rattle.lf_core.specs.Spine.{apply, head_of, arguments_of}
 use Rattle.lf_core.specs.Scope.{Scoped}
-use Rattle.lf_core.specs.Environment.{Environment, Context, nat, nat_zero, nat_succ}
-use Rattle.lf_core.specs.Literal.{operation_of, literal_operation}
-use Rattle.lf_core.specs.Step.{Step, beta, zeta, delta, iota, literal_zero, literal_succ, operation, literal_term, by_rule}
-use Rattle.lf_core.specs.Judgment.{result_level, IsDeclaredProposition, Equal, reflexive, symmetric, transitive, applications, step, declared_irrelevance, HasType, literal, conversion, Formed, has_type, is_type, equal_to, argument}
+use Rattle.lf_core.specs.Environment.{Environment, Context, nat_succ}
+use Rattle.lf_core.specs.Step.{Step, iota, literal_zero, literal_succ, by_rule}
+use Rattle.lf_core.specs.Judgment.{result_level, IsDeclaredProposition, Equal, reflexive, transitive, applications, step, declared_irrelevance, literal, conversion, Formed, has_type, is_type, equal_to}
 use Rattle.lf_core.specs.declared.constant.ConstInfo.{ConstInfo}
 use Rattle.lf_core.specs.declared.constant.Detail.{Detail}
 use Rattle.lf_core.specs.declared.constant.Detail.TheVariants.{Plain, Ind, Ctor, Rec}
-use Rattle.lf_core.specs.declared.literal.LitOut.{LitOut}
-use Rattle.lf_core.specs.declared.literal.LitOut.TheVariants.{Nat, Bool as Truth}
 use Rattle.lf_judgment_laws.specs.InScope.{RulesClosed}
-use Rattle.lf_judgment_laws.proofs.Variables.{rebuilt, apply-append}
-use Rattle.lf_env.specs.View.{View, Lookup, found, absent, need_body, need_real, lookup_of, KnownBody, value, opaque, unresolved, body_of}
-use Rattle.lf_env.specs.Extends.{Shape, shape_of}
-use Rattle.lf_env.specs.LevelTest.{is_same}
-use Rattle.lf_env.specs.Run.{Run, go_on, gives, choose, caught, attempt, put, made_before}
-use Rattle.lf_env.specs.Calls.{checked, Calls, Seen, known, unknown, missing, seen_as, see}
-use Rattle.lf_env.specs.Whnf.{Progress, stays, next, ends, goes, Recursor, Split, one_before, split, constructor_of, shared, fire_rule, fire_detail, fire_seen, fire_head, fire, is_true, put_in, is_fieldless, put_in_seen, is_prop_level, like_k, or_like_k, at_major, recursor_turn, as_number, operated, on_numbers, operands, literal_turn, by_body, delta_turn, detail_turn, constant_turn, head_turn, whnf_turn, turn_limit, whnf_loop, whnf_body}
-use Rattle.lf_checker_laws.specs.Soundness.{Held, zero_name, HeldBeside, HeldValue, Names, Fits, AllFit, ContextFits, PartsHeld, EndsIn, ClosedList, Post, Typed, Reduct, Sound}
-use Rattle.lf_checker_laws.proofs.Tests.{no_false, path_is, term_is, level_same}
+use Rattle.lf_judgment_laws.proofs.Variables.{rebuilt}
+use Rattle.lf_env.specs.View.{View, Lookup, found, absent, need_body, need_real, lookup_of}
+use Rattle.lf_env.specs.Run.{Run, go_on, gives, choose, caught, put, made_before}
+use Rattle.lf_env.specs.Calls.{checked, Calls, seen_as}
+use Rattle.lf_env.specs.Whnf.{Progress, stays, next, ends, goes, Recursor, Split, one_before, split, constructor_of, shared, fire_rule, fire_detail, fire_seen, fire_head, fire, is_true, put_in, is_prop_level}
+use Rattle.lf_checker_laws.specs.Soundness.{Held, HeldBeside, Names, Fits, AllFit, ContextFits, PartsHeld, EndsIn, ClosedList, Post, Typed, Reduct, Sound}
+use Rattle.lf_checker_laws.proofs.Tests.{no_false, path_is, level_same}
 use Rattle.lf_checker_laws.proofs.Runs.{post_then, post_map, post_both, Maybe, post_caught, post_choose, post_put, post_made_before, Yes}
-use Rattle.lf_checker_laws.proofs.Fitting.{instantiate_fits, levels_fit, apply_fits, head_fits, arguments_fit, all_append, all_front, all_back, all_take, all_drop}
-use Rattle.lf_checker_laws.proofs.Forming.{AllFormed, formed_parts, formed_as, equal_apply}
+use Rattle.lf_checker_laws.proofs.Fitting.{levels_fit, apply_fits, arguments_fit, all_append, all_take, all_drop}
+use Rattle.lf_checker_laws.proofs.Forming.{formed_as, equal_apply}
 use Rattle.lf_checker_laws.proofs.Ends.{spine_of, Spine, TypeEnds, Ends}
-use Rattle.lf_checker_laws.proofs.Views.{body_is, found_is}
+use Rattle.lf_checker_laws.proofs.Views.{found_is}
 
 abbrev pub Fit : View → Environment → Context → Term → Type 0
 Fit V E C t = Fits V E 0 (length C) t

@@ -1,11 +1,10 @@
 -- What `whnf` gives is equal to what it began with.
-use Rattle.std.proofs.Common.{◌≡◌, ◌<◌, ◌^◌, ℕ, zero, suc, ◌+◌, nat_eq, nat_lt, Bool, true, false, ◌&&◌, if◌then◌else◌, List, [], ◌∷◌, ◌++◌, length, refl, sym, ap, subst, ◌∙◌, arith, Option, Some, None, is_some, Contains}
+use Rattle.std.proofs.Common.{◌≡◌, ◌<◌, ◌^◌, ℕ, zero, suc, ◌+◌, nat_eq, nat_lt, Bool, true, false, ◌&&◌, List, [], ◌∷◌, ◌++◌, length, refl, sym, ap, subst, ◌∙◌, Option, Some, None, is_some, Contains}
 use Rattle.std.proofs.lemmas.Bool.{cond_both, eqb-true, ltb-true, and_parts}
 use Rattle.lf_core.specs.Term.{Path, Universe, Term, bound, free, meta, sort, const, app, lam, pi, letin, lit}
 use Rattle.lf_core.specs.Same.{same, same_path}
 use Rattle.lf_core.specs.Substitution.{instantiate, level_instantiate}
 use Rattle.lf_core.specs.Spine.{apply, head_of, arguments_of}
-use Rattle.lf_core.specs.Scope.{Scoped}
 use Rattle.lf_core.specs.Environment.{Environment, Context, nat, nat_zero, nat_succ}
 use Rattle.lf_core.specs.Literal.{operation_of, literal_operation}
 use Rattle.lf_core.specs.Step.{Step, beta, zeta, delta, literal_zero, literal_succ, operation, literal_term}
@@ -18,14 +17,14 @@ use Rattle.lf_core.specs.declared.literal.LitOut.TheVariants.{Nat, Bool as Truth
 use Rattle.lf_judgment_laws.proofs.Variables.{rebuilt, apply-append}
 use Rattle.lf_env.specs.View.{View, Lookup, found, absent, need_body, need_real, lookup_of, KnownBody, value, opaque, unresolved, body_of}
 use Rattle.lf_env.specs.Extends.{shape_of}
-use Rattle.lf_env.specs.Run.{Run, gives, choose, made_before}
-use Rattle.lf_env.specs.Calls.{checked, Calls, seen_as, see}
+use Rattle.lf_env.specs.Run.{Run, gives, choose}
+use Rattle.lf_env.specs.Calls.{Calls, seen_as, see}
 use Rattle.lf_env.specs.Whnf.{Progress, stays, next, ends, Recursor, Split, split, constructor_of, shared, fire, put_in, is_fieldless, put_in_seen, is_prop_level, like_k, or_like_k, at_major, recursor_turn, as_number, operated, on_numbers, operands, literal_turn, by_body, delta_turn, detail_turn, constant_turn, head_turn, whnf_turn, turn_limit, whnf_loop, whnf_body}
-use Rattle.lf_checker_laws.specs.Soundness.{Held, zero_name, true_name, false_name, HeldBeside, HeldValue, Names, Fits, AllFit, ContextFits, PartsHeld, ClosedList, Post, Typed, Reduct, Sound}
+use Rattle.lf_checker_laws.specs.Soundness.{Held, zero_name, true_name, false_name, HeldBeside, Names, AllFit, ContextFits, PartsHeld, ClosedList, Post, Reduct, Sound}
 use Rattle.lf_checker_laws.proofs.Tests.{no_false, path_is, term_is}
 use Rattle.lf_checker_laws.proofs.Runs.{post_then, post_map, post_choose}
-use Rattle.lf_checker_laws.proofs.Fitting.{instantiate_fits, levels_fit, apply_fits, head_fits, arguments_fit, all_front, all_back}
-use Rattle.lf_checker_laws.proofs.Forming.{AllFormed, formed_parts, formed_as, equal_apply}
+use Rattle.lf_checker_laws.proofs.Fitting.{instantiate_fits, levels_fit, head_fits, arguments_fit, all_front, all_back}
+use Rattle.lf_checker_laws.proofs.Forming.{AllFormed, formed_parts, equal_apply}
 use Rattle.lf_checker_laws.proofs.Ends.{Ends}
 use Rattle.lf_checker_laws.proofs.Views.{body_is}
 use Rattle.lf_checker_laws.proofs.Reduces.{Fit, Goes, goes_from, goes_made, stepped, SplitIs, split_is, IsRecursor, Whole, fire_sound, constructor_equal, constructor_arguments, constructor_scoped, prop_is, IsLikeK, put_in_sound}

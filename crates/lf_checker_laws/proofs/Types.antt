@@ -1,20 +1,18 @@
 -- What `infer` gives is a type of the term.
-use Rattle.std.proofs.Common.{◌≡◌, ℕ, nat_eq, Bool, true, List, length, refl, sym, ap, subst, Option, Some, None, slice_get}
+use Rattle.std.proofs.Common.{◌≡◌, ℕ, nat_eq, true, List, length, refl, sym, ap, subst, Option, Some, None, slice_get}
 use Rattle.std.proofs.lemmas.Bool.{eqb-true}
 use Rattle.lf_core.specs.Term.{Path, Universe, level_succ, level_imax, Term, bound, free, meta, sort, const, app, lam, pi, letin, lit}
 use Rattle.lf_core.specs.Same.{same_path}
 use Rattle.lf_core.specs.Substitution.{instantiate, level_instantiate, abstract}
-use Rattle.lf_core.specs.Environment.{Environment, Context, with, opened, nat, nat_type}
+use Rattle.lf_core.specs.Environment.{Environment, Context, with, opened, nat}
 use Rattle.lf_core.specs.Judgment.{Equal, HasType, variable, sort_type, constant, application, lambda, pi_type, let_type, literal, conversion, Formed, has_type, is_type, pi_domain}
-use Rattle.lf_core.specs.declared.binder.Binder.{Binder}
-use Rattle.lf_core.specs.declared.constant.ConstInfo.{ConstInfo}
 use Rattle.lf_judgment_laws.proofs.Variables.{opened-abstract}
 use Rattle.lf_env.specs.View.{View, Lookup, found, absent, need_body, need_real, lookup_of}
-use Rattle.lf_env.specs.Run.{Run, ◌>>=◌, gives, refuse, choose, under, put, made, opening, wrong_levels, wrong_argument, wrong_value}
-use Rattle.lf_env.specs.Calls.{checked, Calls, seen_as, see}
+use Rattle.lf_env.specs.Run.{gives, refuse, under, put, made, wrong_levels, wrong_argument, wrong_value}
+use Rattle.lf_env.specs.Calls.{checked, Calls, seen_as}
 use Rattle.lf_env.specs.Infer as checker
-use Rattle.lf_env.specs.Infer.{of_context, of_constant, on_sort, on_pi, sort_of, infer_body}
-use Rattle.lf_checker_laws.specs.Soundness.{Held, zero_name, HeldBeside, Names, Fits, ContextFits, ClosedList, Post, Typed, Reduct, Sound}
+use Rattle.lf_env.specs.Infer.{of_context, of_constant, sort_of, infer_body}
+use Rattle.lf_checker_laws.specs.Soundness.{zero_name, HeldBeside, Names, Fits, ContextFits, ClosedList, Post, Typed, Reduct, Sound}
 use Rattle.lf_checker_laws.proofs.Tests.{no_false}
 use Rattle.lf_checker_laws.proofs.Runs.{post_then, post_map, post_named, post_choose, post_put, post_made, post_made_then, post_opening_then, post_on_pi, post_on_sort, Yes}
 use Rattle.lf_checker_laws.proofs.Fitting.{instantiate_fits, opened_fits, closed_fits, levels_fit, all_get, context_with}

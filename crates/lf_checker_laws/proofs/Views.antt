@@ -1,16 +1,11 @@
 -- What the views' answers tell of constants.
-use Rattle.std.proofs.Common.{◌≡◌, ℕ, ◌<◌, ◌^◌, Bool, true, false, nat_lt, if◌then◌else◌, Option, Some, None, option_and_then, refl, sym, ap, subst, ◌∙◌}
-use Rattle.std.proofs.lemmas.Bool.{cond_both, ltb-true}
+use Rattle.std.proofs.Common.{◌≡◌, ℕ, true, Option, Some, None, refl, sym, ap, ◌∙◌}
+use Rattle.std.proofs.lemmas.Bool.{cond_both}
 use Rattle.lf_core.specs.Term.{Path, Term}
-use Rattle.lf_core.specs.Literal.{operation_of, number, compute, literal_operation}
 use Rattle.lf_core.specs.declared.constant.ConstInfo.{ConstInfo}
 use Rattle.lf_core.specs.declared.constant.ConstKind.{ConstKind}
 use Rattle.lf_core.specs.declared.constant.ConstKind.TheVariants.{Axiom, Def, Theorem, Inductive, Constructor, Recursor}
-use Rattle.lf_core.specs.declared.literal.LitOut.{LitOut}
-use Rattle.lf_core.specs.declared.literal.LitOut.TheVariants.{Nat, Bool as Truth}
-use Rattle.lf_core.specs.declared.literal.Operation.{Operation}
-use Rattle.lf_core.specs.declared.literal.Operation.TheVariants.{Add, Sub, Mul, Div, Mod, Beq, Ble, Land, Lor, Xor}
-use Rattle.lf_env.specs.View.{View, Lookup, found, lookup_of, KnownBody, value, opaque, unresolved, known_body, definition_body, is_definition, find_branch, found_body, body_of}
+use Rattle.lf_env.specs.View.{View, found, lookup_of, value, opaque, known_body, definition_body, is_definition, find_branch, found_body, body_of}
 
 kind_is_definition : (k : ConstKind) → is_definition k ≡ true → k ≡ Def
 kind_is_definition Def e = refl

@@ -1,4 +1,4 @@
-use Rattle.std.proofs.Common.{◌≡◌, refl}
+use Rattle.std.proofs.Common.{refl}
 use Rattle.lf_env.specs.LevelTest.{is_same}
 use Rattle.lf_env.specs.Whnf.{turn_limit, whnf_body}
 use Rattle.lf_env.specs.Infer.{infer_body}

@@ -1,5 +1,5 @@
 -- The checker's test of levels is exact: they pass where they are the same under every assignment.
-use Rattle.std.specs.Prelude.{◌≡◌, ◌↔◌, ◌≤◌, ℕ, true, length}
+use Rattle.std.specs.Prelude.{◌≡◌, ◌↔◌, ◌≤◌, true, length}
 use Rattle.lf_core.specs.Term.{Universe}
 use Rattle.lf_core.specs.Level.{Same}
 use Rattle.lf_core.specs.Size.{level_depth}

@@ -1,6 +1,4 @@
-pub mod Worked
-pub mod Extension
+pub mod Levels
 pub mod Soundness
 pub mod Declarations
-pub mod Calm
-pub mod Levels
+pub mod Worked

@@ -1,6 +1,6 @@
 -- Soundness of the checker: its answers have derivations, over a list of constants that the view knows and that names nothing outside it.
 use Rattle.std.specs.Prelude.{◌≡◌, ◌+◌, ℕ, Bool as Truth, zero, suc, true, false, Some, List, [], ◌∷◌, length, slice_get, Contains, codes}
-use Rattle.lf_core.specs.Term.{Path, Universe, Term, bound, free, meta, sort, const, app, lam, pi, letin, lit}
+use Rattle.lf_core.specs.Term.{Path, Universe, Term, const, app, lam, pi, letin, lit}
 use Rattle.lf_core.specs.Spine.{apply}
 use Rattle.lf_core.specs.Scope.{Scoped}
 use Rattle.lf_core.specs.Environment.{Environment, Context, nat}

@@ -1,12 +1,11 @@
 -- Answers of the checker that are known from elsewhere: of the document, and of a small base of numbers and of equality.
 use Rattle.std.specs.Prelude.{◌≡◌, ◌-◌, ◌+◌, ℕ, zero, suc, true, false, Option, Some, None, List, [], ◌∷◌, ◌++◌, codes}
-use Rattle.lf_core.specs.Term.{Path, Universe, level_zero, level_succ, level_imax, level_param, Term, bound, free, meta, sort, const, app, lam, pi, letin, lit}
-use Rattle.lf_core.specs.Spine.{apply}
+use Rattle.lf_core.specs.Term.{Path, Universe, level_zero, level_succ, level_param, Term, bound, free, sort, const, app, lam, pi, lit}
 use Rattle.lf_core.specs.Environment.{nat, nat_type, nat_zero, nat_succ}
 use Rattle.lf_core.specs.declared.binder.Binder.{Binder}
 use Rattle.lf_core.specs.declared.binder.BinderKind.TheVariants.{Explicit}
 use Rattle.lf_core.specs.declared.constant.ConstInfo.{ConstInfo}
-use Rattle.lf_core.specs.declared.constant.ConstKind.TheVariants.{Axiom, Def, Theorem, Inductive, Constructor, Recursor}
+use Rattle.lf_core.specs.declared.constant.ConstKind.TheVariants.{Def, Inductive, Constructor, Recursor}
 use Rattle.lf_core.specs.declared.constant.Detail.TheVariants.{Plain, Ind, Ctor, Rec}
 use Rattle.lf_core.specs.declared.constant.TaskKey.TheVariants.{Body}
 use Rattle.lf_env.specs.View.{View, base_entries, base_view}

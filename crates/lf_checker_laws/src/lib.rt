@@ -1,22 +1,14 @@
-//! Laws on the plain checker: each public function's contract is one of them.
+//! Soundness of the plain checker, and its worked answers: each public function's contract is a law.
 #![tactic(auto)]
 
-ghost use Rattle.lf_checker_laws.specs.Calm.{OnlyInferenceRefuses};
 ghost use Rattle.lf_checker_laws.specs.Declarations.{AcceptedIsDerived, DerivedIsClosedList};
-ghost use Rattle.lf_checker_laws.specs.Extension.{ExtensionLaw};
 ghost use Rattle.lf_checker_laws.specs.Levels.{LevelTestIsExact};
 ghost use Rattle.lf_checker_laws.specs.Soundness.{Soundness};
 ghost use Rattle.lf_checker_laws.specs.Worked.{Answers};
 
-/// Answers that are known from elsewhere.
-pub fn worked_answers()
-    ensures { Answers }
-{
-}
-
-/// What the checker answers on a view it answers on each view that extends it, units included.
-pub fn checker_is_extended()
-    ensures { ExtensionLaw }
+/// The checker's test of levels passes exactly what is the same under every assignment, within its limits.
+pub fn level_test_is_exact()
+    ensures { LevelTestIsExact }
 {
 }
 
@@ -39,14 +31,8 @@ pub fn accepted_is_derived()
 {
 }
 
-/// `whnf`, `equal` and `normalize` never answer with a refusal.
-pub fn only_inference_refuses()
-    ensures { OnlyInferenceRefuses }
-{
-}
-
-/// The checker's test of levels passes exactly what is the same under every assignment, within its limits.
-pub fn level_test_is_exact()
-    ensures { LevelTestIsExact }
+/// Answers that are known from elsewhere.
+pub fn worked_answers()
+    ensures { Answers }
 {
 }

@@ -3,7 +3,7 @@ use Rattle.std.specs.Prelude.{ℕ, Bool}
 use Rattle.lf_core.specs.Term.{Term}
 use Rattle.lf_core.specs.Environment.{Context}
 use Rattle.lf_env.specs.View.{View}
-use Rattle.lf_env.specs.Run.{Answer, done, refused, out, need}
+use Rattle.lf_env.specs.Run.{Answer, refused}
 use Rattle.lf_env.specs.Calls.{Calls}
 use Rattle.lf_env.specs.Checker.{calls}
 

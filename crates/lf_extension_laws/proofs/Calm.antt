@@ -1,23 +1,23 @@
 -- Weak head forms, equality and normal forms are never refused.
-use Rattle.std.proofs.Common.{◌≡◌, ◌+◌, ◌-◌, ◌^◌, ◌&&◌, ℕ, zero, suc, Bool, true, false, nat_eq, nat_lt, if◌then◌else◌, List, [], ◌∷◌, length, Option, Some, None, is_some}
-use Rattle.lf_core.specs.Term.{Path, Universe, Term, bound, free, meta, sort, const, app, lam, pi, letin, lit}
+use Rattle.std.proofs.Common.{◌+◌, ◌-◌, ◌^◌, ◌&&◌, ℕ, zero, suc, Bool, true, false, nat_lt, if◌then◌else◌, List, [], ◌∷◌, length, Option, Some, None}
+use Rattle.lf_core.specs.Term.{Path, Universe, Term, sort, const, app, lam, pi, letin, lit}
 use Rattle.lf_core.specs.Same.{same}
 use Rattle.lf_core.specs.Spine.{apply, head_of, arguments_of}
 use Rattle.lf_core.specs.Size.{node_count, depth}
 use Rattle.lf_core.specs.Environment.{Context, opened, nat_succ}
 use Rattle.lf_core.specs.Literal.{literal_operation}
 use Rattle.lf_core.specs.declared.constant.Detail.{Detail}
-use Rattle.lf_core.specs.declared.constant.Detail.TheVariants.{Plain, Ind, Ctor, Rec}
+use Rattle.lf_core.specs.declared.constant.Detail.TheVariants.{Ind, Ctor, Rec}
 use Rattle.lf_core.specs.declared.literal.LitOut.{LitOut}
 use Rattle.lf_env.specs.View.{View, KnownBody, value, opaque, unresolved, body_of}
 use Rattle.lf_env.specs.Extends.{Shape}
-use Rattle.lf_env.specs.Run.{Answer, done, refused, out, need, Run, go_on, ◌>>=◌, gives, gives_up, spend, caught, attempt, choose, put, made_before, made, opening, greatest_depth, greatest_variable}
-use Rattle.lf_env.specs.Calls.{checked, Calls, Seen, known, unknown, missing, see}
-use Rattle.lf_env.specs.Whnf.{Progress, stays, next, ends, goes, Recursor, Split, split, shared, fire_rule, fire_detail, fire_seen, fire_head, fire, is_fieldless, put_in, put_in_seen, is_prop_level, like_k, or_like_k, at_major, recursor_turn, operated, on_numbers, operands, literal_turn, by_body, delta_turn, detail_turn, constant_turn, head_turn, whnf_turn, turn_limit, whnf_loop, whnf_body}
-use Rattle.lf_env.specs.Equal.{Verdict, decided, again, undecided, decided_by, or_else, decides, when_true, if_true, and_then, equal_binders, by_form, by_whnf, proposition_of, proves, by_proofs, expanded, expansion_of, eta_expansion, against_left, against_right, by_eta, by_predecessors, by_literals, equal_all, by_arguments, Definition, of_body, definition_seen, definition_of, unfolded, by_height, by_unfolding, by_types, by_heads, equal_turn, equal_loop, equal_body}
+use Rattle.lf_env.specs.Run.{Answer, done, refused, out, need, Run, go_on, ◌>>=◌, gives, gives_up, spend, caught, choose, put, made_before, made, opening, greatest_depth, greatest_variable}
+use Rattle.lf_env.specs.Calls.{Calls, Seen, known, unknown, missing, see}
+use Rattle.lf_env.specs.Whnf.{Progress, stays, next, ends, Recursor, Split, split, shared, fire_rule, fire_detail, fire_seen, fire_head, fire, put_in, put_in_seen, like_k, or_like_k, at_major, recursor_turn, operated, on_numbers, operands, literal_turn, by_body, delta_turn, detail_turn, constant_turn, head_turn, whnf_turn, turn_limit, whnf_loop, whnf_body}
+use Rattle.lf_env.specs.Equal.{Verdict, decided, again, undecided, decided_by, or_else, decides, when_true, and_then, equal_binders, by_form, by_whnf, proves, by_proofs, expanded, expansion_of, eta_expansion, against_left, against_right, by_eta, by_predecessors, by_literals, equal_all, by_arguments, Definition, of_body, definition_seen, definition_of, by_height, by_unfolding, by_types, by_heads, equal_turn, equal_loop, equal_body}
 use Rattle.lf_env.specs.Normalize.{normalize_all, normalize_body_of_binder, normalize_arguments, normalize_parts, normalize_body}
-use Rattle.lf_env.specs.Checker.{turn, calls}
-use Rattle.lf_checker_laws.specs.Calm.{IsNoRefusal, NeverRefuses, OnlyInferenceRefuses}
+use Rattle.lf_env.specs.Checker.{calls}
+use Rattle.lf_extension_laws.specs.Calm.{IsNoRefusal, NeverRefuses, OnlyInferenceRefuses}
 
 calm_then : {A B : Type 0} (o : Answer A) (f : A → Run B) → IsNoRefusal o → ((x : A) (u : ℕ) → IsNoRefusal (f x u)) → IsNoRefusal (go_on o f)
 calm_then (done x u) f h k = k x u

@@ -1,14 +1,14 @@
 -- Runs of which the second tells all that the first tells, through the ways to put runs together.
-use Rattle.std.proofs.Common.{◌≡◌, ℕ, zero, suc, ◌-◌, Bool, true, false, nat_lt, if◌then◌else◌, List, [], ◌∷◌, length, Option, Some, None, refl, sym, ap, subst, ◌∙◌}
-use Rattle.lf_core.specs.Term.{Path, Universe, Term, sort, pi}
+use Rattle.std.proofs.Common.{◌≡◌, ℕ, ◌-◌, Bool, true, false, nat_lt, if◌then◌else◌, Some, None, refl, sym, ap, subst}
+use Rattle.lf_core.specs.Term.{Path, Term, pi}
 use Rattle.lf_core.specs.declared.constant.ConstInfo.{ConstInfo}
 use Rattle.lf_core.specs.declared.constant.TaskKey.{TaskKey}
 use Rattle.lf_env.specs.View.{View, Lookup, found, absent, need_body, need_real, lookup_of, KnownBody, value, opaque, unresolved, found_body, body_of}
 use Rattle.lf_env.specs.Extends.{shape_of, SameFound, SameLookup, SameBody, Extends}
-use Rattle.lf_env.specs.Run.{Answer, done, refused, out, need, Run, go_on, choose, spend, caught, attempt, named_in, under, Refusal}
-use Rattle.lf_env.specs.Calls.{Calls, Seen, known, unknown, missing, seen_as, see}
+use Rattle.lf_env.specs.Run.{Answer, done, refused, out, need, Run, go_on, choose, spend, caught, named_in}
+use Rattle.lf_env.specs.Calls.{Seen, known, unknown, missing, seen_as, see}
 use Rattle.lf_env.specs.Infer.{on_pi}
-use Rattle.lf_checker_laws.specs.Extension.{Kept}
+use Rattle.lf_extension_laws.specs.Extension.{Kept}
 
 pub kept_self : {A : Type 0} (o : Answer A) → Kept o o
 kept_self (done x u) = refl

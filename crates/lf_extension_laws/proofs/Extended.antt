@@ -1,26 +1,24 @@
 -- The extension law, function by function.
-use Rattle.std.proofs.Common.{◌≡◌, ℕ, zero, suc, Bool, true, false, if◌then◌else◌, ◌+◌, ◌^◌, ◌&&◌, nat_eq, nat_lt, List, [], ◌∷◌, length, Option, Some, None, refl, sym, ap, subst}
-use Rattle.lf_core.specs.Term.{Path, Universe, Term, bound, free, meta, sort, const, app, lam, pi, letin, lit}
+use Rattle.std.proofs.Common.{ℕ, zero, suc, Bool, true, false, ◌+◌, ◌^◌, ◌&&◌, nat_eq, nat_lt, List, [], ◌∷◌, length, Option, Some, None, refl}
+use Rattle.lf_core.specs.Term.{Path, Universe, Term, sort, const, app, lam, pi, letin, lit}
 use Rattle.lf_core.specs.Spine.{head_of, arguments_of}
 use Rattle.lf_core.specs.Same.{same}
 use Rattle.lf_core.specs.Environment.{Context, nat_succ}
 use Rattle.lf_core.specs.Literal.{literal_operation}
 use Rattle.lf_core.specs.declared.literal.LitOut.{LitOut}
-use Rattle.lf_core.specs.Judgment.{result_level}
-use Rattle.lf_core.specs.declared.constant.ConstInfo.{ConstInfo}
 use Rattle.lf_core.specs.declared.constant.Detail.{Detail}
-use Rattle.lf_core.specs.declared.constant.Detail.TheVariants.{Plain, Ind, Ctor, Rec}
-use Rattle.lf_env.specs.View.{View, There, there, not_there, not_known, there_of, body_of}
+use Rattle.lf_core.specs.declared.constant.Detail.TheVariants.{Ind, Rec}
+use Rattle.lf_env.specs.View.{View, body_of}
 use Rattle.lf_env.specs.Extends.{Shape, Extends}
-use Rattle.lf_env.specs.Run.{Answer, Run, ◌>>=◌, gives, spend}
+use Rattle.lf_env.specs.Run.{Run, ◌>>=◌, gives}
 use Rattle.lf_env.specs.Calls.{Mode, checked, unchecked, Calls, Seen, known, unknown, missing, see}
-use Rattle.lf_env.specs.Whnf.{Progress, stays, next, ends, Recursor, Split, fire_rule, fire_detail, fire_seen, fire_head, fire, put_in, put_in_seen, is_prop_level, like_k, or_like_k, at_major, shared, split, recursor_turn, operated, on_numbers, operands, literal_turn, by_body, delta_turn, detail_turn, constant_turn, head_turn, whnf_turn, turn_limit, whnf_loop, whnf_body}
+use Rattle.lf_env.specs.Whnf.{Progress, stays, next, ends, Recursor, Split, fire_seen, fire_head, fire, put_in, put_in_seen, like_k, or_like_k, at_major, shared, split, recursor_turn, operated, on_numbers, operands, literal_turn, by_body, delta_turn, detail_turn, constant_turn, head_turn, whnf_turn, turn_limit, whnf_loop, whnf_body}
 use Rattle.lf_env.specs.Infer.{of_constant, sort_of, is_type, argument_fits, value_fits, infer_body}
-use Rattle.lf_env.specs.Equal.{Verdict, decided, again, undecided, decided_by, or_else, decides, when_true, if_true, and_then, equal_binders, by_form, by_whnf, proposition_of, proves, by_proofs, expanded, expansion_of, eta_expansion, against_left, against_right, by_eta, by_predecessors, by_literals, equal_all, by_arguments, Definition, of_body, definition_seen, definition_of, by_height, by_unfolding, by_types, by_heads, equal_turn, equal_loop, equal_body}
+use Rattle.lf_env.specs.Equal.{Verdict, decided, again, undecided, decided_by, or_else, decides, when_true, and_then, equal_binders, by_form, by_whnf, proposition_of, proves, by_proofs, expansion_of, eta_expansion, against_left, against_right, by_eta, by_predecessors, by_literals, equal_all, by_arguments, of_body, definition_seen, definition_of, by_unfolding, by_types, by_heads, equal_turn, equal_loop, equal_body}
 use Rattle.lf_env.specs.Normalize.{normalize_all, normalize_body_of_binder, normalize_arguments, normalize_parts, normalize_body}
-use Rattle.lf_env.specs.Checker.{turn, calls, unless_there, add_header, body_height, seen_height, greatest_height, height_of, check_value, add_decl}
-use Rattle.lf_checker_laws.specs.Extension.{Kept, Agree, AgreeOn}
-use Rattle.lf_checker_laws.proofs.Kept.{kept_self, kept_then, kept_caught, kept_named, kept_spend, kept_choose, kept_on_pi, see_kept, body_kept, kept_seen, kept_body}
+use Rattle.lf_env.specs.Checker.{turn, calls}
+use Rattle.lf_extension_laws.specs.Extension.{Kept, Agree}
+use Rattle.lf_extension_laws.proofs.Kept.{kept_self, kept_then, kept_caught, kept_named, kept_spend, kept_choose, kept_on_pi, see_kept, body_kept, kept_seen, kept_body}
 
 ruleset kept = (kept_self, kept_then, kept_caught, kept_named, kept_spend, kept_choose, kept_on_pi)
 

@@ -1,5 +1,0 @@
-use Rattle.lf_checker_laws.proofs.Calm.{only_inference_refuses}
-use Rattle.lf_checker_laws.proofs.only_inference_refuses.Goals as goal
-
-pub returns : goal.returns
-returns c = only_inference_refuses
