@@ -146,13 +146,13 @@ decl_sound V E d k cl depth c v u s kind q nv lv =
     let Q : ℕ → Type 0 = λ h. Derived (E ++ c ∷ []) in
     post_choose Q (is_closed c.ty && is_value_closed c.value) (unless_there c.name (there_of V c.name) (check_value V depth c.ty c.value)) (refuse not_closed) u
     (λ e. unless_sound Q c.name (there_of V c.name) (check_value V depth c.ty c.value) u λ z.
-      let p = and_parts (is_closed c.ty) (is_value_closed c.value) e in
-      let sv : Scoped 0 0 v = scoped_is 0 v (subst (λ o. is_value_closed o ≡ true) q p.1) in
-      let names = names_of V E k cl.beside in
-      subst (λ o. Post Q (check_value V depth c.ty o u)) (sym q)
-      (post_map (λ h. HasType E [] v c.ty) Q (check_value V depth c.ty (Some v) u)
-      (value_sound V E cl depth c.ty v s.level u (scoped_is 0 c.ty p.0) sv (names c.ty s.type.named) (names v nv) s.type.typed) λ h t.
-      with_value c v d s kind q (record { typed = t; named = nv; levels = lv })))
+    let p = and_parts (is_closed c.ty) (is_value_closed c.value) e in
+    let sv : Scoped 0 0 v = scoped_is 0 v (subst (λ o. is_value_closed o ≡ true) q p.1) in
+    let names = names_of V E k cl.beside in
+    subst (λ o. Post Q (check_value V depth c.ty o u)) (sym q)
+    (post_map (λ h. HasType E [] v c.ty) Q (check_value V depth c.ty (Some v) u)
+    (value_sound V E cl depth c.ty v s.level u (scoped_is 0 c.ty p.0) sv (names c.ty s.type.named) (names v nv) s.type.typed) λ h t.
+    with_value c v d s kind q (record { typed = t; named = nv; levels = lv })))
     (λ e. tt)
 
 -- ---- New names.

@@ -87,8 +87,8 @@ rule_sound V E cl C c d r ls ms s index own fields ys (Some rule) u i wd qd n q 
     let named : Names V E rule = (subst (PartsHeld V E) i.detail (cl.parts c i.within)).2 index rule q in
     let fc : Scoped 0 (length C) (apply (const c.name ls) s.before) = scoped_before (const c.name ls) s.before tt i.before in
     let fg : Fit V E C g =
-      apply_fits V E (length C) (level_instantiate ls rule) (take (shared r) s.before ++ drop own ys) (levels_fit V E (length C) ls rule closed named)
-      (all_append V E (length C) (take (shared r) s.before) (drop own ys) (all_take V E (length C) (shared r) s.before i.before) (all_drop V E (length C) own ys fy)) in
+    apply_fits V E (length C) (level_instantiate ls rule) (take (shared r) s.before ++ drop own ys) (levels_fit V E (length C) ls rule closed named)
+    (all_append V E (length C) (take (shared r) s.before) (drop own ys) (all_take V E (length C) (shared r) s.before i.before) (all_drop V E (length C) own ys fy)) in
     goes_made V E C (Whole c ls s (apply (const d.name ms) ys)) (apply g s.after) [] u
     (stepped V E C (Whole c ls s (apply (const d.name ms) ys)) src g s.after refl st (fc, sy) fg i.after ft)
   where

@@ -95,7 +95,7 @@ level_same l m =
     cond_both (has_metavariable l || has_metavariable m) (same_universe l m) _ (λ b. b ≡ true → Same l m)
     (λ e h s. ap (λ k. value_of s k) (universe_is l m h))
     (λ e. cond_both (is_too_great l m) false (both_orders l m) (λ b. b ≡ true → Same l m) (λ g h. no_false h)
-      (λ g h. let p = or_parts (has_metavariable l) (has_metavariable m) e in tested l m p.0 p.1 g h))
+    (λ g h. let p = or_parts (has_metavariable l) (has_metavariable m) e in tested l m p.0 p.1 g h))
 
 pub levels_same : (ls ms : List Universe) → are_same ls ms ≡ true → AllSame ls ms
 levels_same [] [] h = tt

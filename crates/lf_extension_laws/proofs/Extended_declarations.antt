@@ -7,7 +7,7 @@ use Rattle.lf_env.specs.Extends.{SameLookup, IsAnswered, position_placed, Extend
 use Rattle.lf_env.specs.Run.{Run, refuse, not_closed}
 use Rattle.lf_env.specs.Calls.{checked, Seen, known, unknown, missing, see}
 use Rattle.lf_env.specs.Infer.{sort_of}
-use Rattle.lf_env.specs.Checker.{calls, is_closed, is_value_closed, unless_there, add_header, body_height, seen_height, greatest_height, height_of, check_value, add_decl}
+use Rattle.lf_env.specs.Checker.{calls, is_closed, is_value_closed, unless_there, body_height, seen_height, greatest_height, height_of, check_value}
 use Rattle.lf_extension_laws.specs.Extension.{Kept, Agree, ExtensionLaw}
 use Rattle.lf_extension_laws.proofs.Kept.{kept_self, kept_then, kept_choose, see_kept, body_kept, kept_seen, kept_body}
 use Rattle.lf_extension_laws.proofs.Extended.{kept_sort, calls_kept}
@@ -128,7 +128,7 @@ pub extension_law : ExtensionLaw
 extension_law U V x depth = record {
   calls = calls_kept U V x depth;
   add_header = λ n ty u. kept_choose (is_closed ty) (unless_there n (there_of U n) (sort_of (calls U depth) checked [] ty)) (refuse not_closed) (unless_there n (there_of V n) (sort_of (calls V depth) checked [] ty)) (refuse not_closed) u
-    (kept_unless n (there_of U n) (there_of V n) (sort_of (calls U depth) checked [] ty) (sort_of (calls V depth) checked [] ty) u (there_kept U V x n) (kept_sort (calls U depth) (calls V depth) (calls_kept U V x depth) checked [] ty u)) refl;
+      (kept_unless n (there_of U n) (there_of V n) (sort_of (calls U depth) checked [] ty) (sort_of (calls V depth) checked [] ty) u (there_kept U V x n) (kept_sort (calls U depth) (calls V depth) (calls_kept U V x depth) checked [] ty u)) refl;
   add_decl = λ c u. kept_choose (is_closed c.ty && is_value_closed c.value) (unless_there c.name (there_of U c.name) (check_value U depth c.ty c.value)) (refuse not_closed) (unless_there c.name (there_of V c.name) (check_value V depth c.ty c.value)) (refuse not_closed) u
-    (kept_unless c.name (there_of U c.name) (there_of V c.name) (check_value U depth c.ty c.value) (check_value V depth c.ty c.value) u (there_kept U V x c.name) (kept_check_value U V x depth c.ty c.value u)) refl;
+      (kept_unless c.name (there_of U c.name) (there_of V c.name) (check_value U depth c.ty c.value) (check_value V depth c.ty c.value) u (there_kept U V x c.name) (kept_check_value U V x depth c.ty c.value u)) refl;
 }
