@@ -1,4 +1,14 @@
+pub mod Tests
+pub mod Runs
+pub mod Fitting
+pub mod Forming
+pub mod Views
+pub mod Ends
+pub mod Reduces
+pub mod Turns
+pub mod Types
+pub mod Normals
+pub mod Equals
+pub mod All
+pub mod Declared
 pub mod Worked
-pub mod Kept
-pub mod Extended
-pub mod Extended_declarations

@@ -1,9 +1,11 @@
 -- The four functions of the checker as what one of them may call: themselves, one call deeper.
-use Rattle.std.specs.Prelude.{ℕ, Bool, List}
-use Rattle.lf_core.specs.Term.{Path, Universe, Term}
+use Rattle.std.specs.Prelude.{Bool, List}
+use Rattle.lf_core.specs.Term.{Path, Term}
 use Rattle.lf_core.specs.Environment.{Context}
+use Rattle.lf_core.specs.declared.constant.TaskKey.{TaskKey}
+use Rattle.lf_core.specs.declared.constant.TaskKey.TheVariants.{Body, Real}
 use Rattle.lf_env.specs.Extends.{Shape, shape_of}
-use Rattle.lf_env.specs.View.{View, Lookup, found, absent, need_body, need_real, lookup_of, Need, body, real}
+use Rattle.lf_env.specs.View.{View, Lookup, found, absent, need_body, need_real, lookup_of}
 use Rattle.lf_env.specs.Run.{Run}
 
 -- Inference with all its tests; or of the type alone, with these types of metavariables.
@@ -22,13 +24,13 @@ pub record Calls : Type 0 where
 pub data Seen : Type 0 where
   known : Shape → Seen
   unknown : Seen
-  missing : Need → Seen
+  missing : TaskKey → Seen
 
 abbrev pub seen_as : Path → Lookup → Seen
 seen_as n (found c) = known (shape_of c)
 seen_as n absent = unknown
-seen_as n (need_body p) = missing (body p)
-seen_as n need_real = missing (real n)
+seen_as n (need_body p) = missing (Body p)
+seen_as n need_real = missing (Real n)
 
 abbrev pub see : View → Path → Seen
 see V n = seen_as n (lookup_of V n)

@@ -1,13 +1,13 @@
 -- The plain checker: weak head forms, equality, types and normal forms as functions of view, context, term and budget, with no cache.
 -- Each call costs a unit at its start and is nested one deeper while it runs; each term made by substitution costs its nodes.
 -- The rules are in docs/language.md; that they agree with equality and typing is a law (crate lf_checker_laws). This project's own.
-use Rattle.std.specs.Prelude.{ℕ, zero, suc, ◌+◌, Bool, true, false, ◌&&◌, nat_lt, if◌then◌else◌, Option, Some, None, List, [], max, min}
+use Rattle.std.specs.Prelude.{ℕ, zero, suc, ◌+◌, Bool, true, false, ◌&&◌, nat_lt, Option, Some, None, [], max, min}
 use Rattle.lf_core.specs.Term.{Path, Universe, Term, bound, free, meta, sort, const, app, lam, pi, letin, lit}
 use Rattle.lf_core.specs.Environment.{Context}
 use Rattle.lf_core.specs.declared.constant.ConstInfo.{ConstInfo}
-use Rattle.lf_env.specs.View.{View, There, there, not_there, not_known, there_of, Body, value, opaque, unresolved, body_of}
+use Rattle.lf_env.specs.View.{View, There, there, not_there, not_known, there_of, KnownBody, value, opaque, unresolved, body_of}
 use Rattle.lf_env.specs.Run.{Run, ◌>>=◌, gives, gives_up, refuse, needs, choose, spend, not_closed, duplicate, wrong_value}
-use Rattle.lf_env.specs.Calls.{Mode, checked, Calls, Seen, known, unknown, missing, see}
+use Rattle.lf_env.specs.Calls.{checked, Calls, Seen, known, unknown, missing, see}
 use Rattle.lf_env.specs.Whnf.{whnf_body}
 use Rattle.lf_env.specs.Equal.{equal_body}
 use Rattle.lf_env.specs.Infer.{infer_body, sort_of}
@@ -68,7 +68,7 @@ unless_there n not_there m = m
 abbrev pub add_header : View → ℕ → Path → Term → Run Universe
 add_header V depth n ty = choose (is_closed ty) (unless_there n (there_of V n) (sort_of (calls V depth) checked [] ty)) (refuse not_closed)
 
-abbrev pub body_height : Body → Run ℕ
+abbrev pub body_height : KnownBody → Run ℕ
 body_height (value v h) = gives h
 body_height opaque = gives 0
 body_height (unresolved k) = needs k

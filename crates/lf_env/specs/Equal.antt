@@ -1,14 +1,13 @@
 -- Whether two terms are equal: the first rule that decides.
-use Rattle.std.specs.Prelude.{ℕ, zero, suc, Bool, true, false, ◌&&◌, nat_eq, nat_lt, if◌then◌else◌, Option, Some, None, List, [], ◌∷◌, length}
+use Rattle.std.specs.Prelude.{ℕ, ◌^◌, zero, suc, Bool, true, false, ◌&&◌, nat_eq, nat_lt, if◌then◌else◌, Option, Some, None, List, [], ◌∷◌, length}
 use Rattle.lf_core.specs.Term.{Path, Universe, level_zero, Term, bound, sort, const, app, lam, pi, lit}
 use Rattle.lf_core.specs.Same.{same, same_path}
 use Rattle.lf_core.specs.Substitution.{level_instantiate}
-use Rattle.lf_core.specs.Size.{node_count}
 use Rattle.lf_core.specs.Spine.{head_of, arguments_of}
 use Rattle.lf_core.specs.Environment.{Context, with, nat_zero, nat_succ}
-use Rattle.lf_env.specs.View.{View, Body, value, opaque, unresolved, body_of}
+use Rattle.lf_env.specs.View.{View, KnownBody, value, opaque, unresolved, body_of}
 use Rattle.lf_env.specs.LevelTest.{is_same, are_same}
-use Rattle.lf_env.specs.Run.{Run, ◌>>=◌, gives, gives_up, needs, choose, attempt, put, made, made_before, opening}
+use Rattle.lf_env.specs.Run.{Run, ◌>>=◌, gives, gives_up, needs, choose, attempt, made, made_before, opening}
 use Rattle.lf_env.specs.Calls.{checked, Calls, Seen, known, unknown, missing, see}
 use Rattle.lf_env.specs.Whnf.{turn_limit, is_true}
 
@@ -98,16 +97,16 @@ by_proofs c C a b = if_true do
   proves c C b (flat P)
 
 -- A lambda against the eta expansion of the other, where that is a function.
-abbrev pub expanded : Context → Term → Term → Run (Option Term)
-expanded C t (pi x A B) = do
+abbrev pub expanded : Term → Term → Run (Option Term)
+expanded t (pi x A B) = do
   e ← made (lam x A (app t (bound 0)))
   gives (Some e)
-expanded C t _ = gives None
+expanded t _ = gives None
 
 abbrev pub expansion_of : Calls → Context → Term → Option Term → Run (Option Term)
 expansion_of c C t (Some T) = do
   W ← c.whnf true C T
-  expanded C t W
+  expanded t W
 expansion_of c C t None = gives None
 
 abbrev pub eta_expansion : Calls → Context → Term → Run (Option Term)
@@ -133,15 +132,16 @@ by_eta c C a (lam y B d) = do
   against_right c C (lam y B d) e
 by_eta c C a b = gives undecided
 
-abbrev pub literal_against : Run Bool → ℕ → Term → Term → Run Verdict
-literal_against tail n f t = if same f nat_succ then decides tail else gives undecided
+-- A number below 2^128 against the successor of a term: their predecessors.
+abbrev pub by_predecessors : ℕ → Term → Run Bool → Run Verdict
+by_predecessors n f m = choose (same f nat_succ && nat_lt n (2 ^ 128)) (decides m) (gives undecided)
 
 abbrev pub by_literals : Calls → Context → Term → Term → Run Verdict
 by_literals c C (lit m) (lit n) = gives (decided false)
 by_literals c C (lit zero) (const n ls) = gives (when_true (same (const n ls) nat_zero))
 by_literals c C (const n ls) (lit zero) = gives (when_true (same (const n ls) nat_zero))
-by_literals c C (lit (suc n)) (app f t) = literal_against (c.equal C (lit n) t) n f t
-by_literals c C (app f t) (lit (suc n)) = literal_against (c.equal C t (lit n)) n f t
+by_literals c C (lit (suc n)) (app f t) = by_predecessors (suc n) f (c.equal C (lit n) t)
+by_literals c C (app f t) (lit (suc n)) = by_predecessors (suc n) f (c.equal C t (lit n))
 by_literals c C a b = gives undecided
 
 -- One head: constants of one name with levels that are the same, or one tree.
@@ -165,7 +165,7 @@ pub record Definition : Type 0 where
   pub value : Term
   pub height : ℕ
 
-abbrev pub of_body : Body → Run (Option Definition)
+abbrev pub of_body : KnownBody → Run (Option Definition)
 of_body (value v h) = gives (Some (record { value = v; height = h }))
 of_body opaque = gives None
 of_body (unresolved k) = needs k

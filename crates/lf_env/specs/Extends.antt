@@ -5,7 +5,7 @@ use Rattle.lf_core.specs.declared.constant.ConstInfo.{ConstInfo}
 use Rattle.lf_core.specs.declared.constant.ConstKind.{ConstKind}
 use Rattle.lf_core.specs.declared.constant.ConstKind.TheVariants.{Axiom}
 use Rattle.lf_core.specs.declared.constant.Detail.{Detail}
-use Rattle.lf_env.specs.View.{View, Lookup, found, absent, need_body, need_real, lookup_of, Body, value, opaque, unresolved, body_of, placed_of}
+use Rattle.lf_env.specs.View.{View, Lookup, found, absent, need_body, need_real, lookup_of, KnownBody, unresolved, body_of, placed_of}
 
 -- What a constant shows beside its body.
 pub record Shape : Type 0 where
@@ -29,7 +29,7 @@ SameLookup absent l = absent ≡ l
 SameLookup (need_body p) l = Unit {0}
 SameLookup need_real l = Unit {0}
 
-abbrev pub SameBody : Body → Body → Type 0
+abbrev pub SameBody : KnownBody → KnownBody → Type 0
 SameBody (unresolved k) b = Unit {0}
 SameBody a b = a ≡ b
 

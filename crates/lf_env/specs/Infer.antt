@@ -1,5 +1,5 @@
 -- The type of a term.
-use Rattle.std.specs.Prelude.{ℕ, Bool, true, nat_eq, Option, Some, None, List, length, slice_get}
+use Rattle.std.specs.Prelude.{ℕ, true, nat_eq, Option, Some, None, List, length, slice_get}
 use Rattle.lf_core.specs.Term.{Path, Universe, level_succ, level_imax, Term, bound, free, meta, sort, const, app, lam, pi, letin, lit}
 use Rattle.lf_core.specs.Substitution.{instantiate, level_instantiate, abstract}
 use Rattle.lf_core.specs.Environment.{Context, with, nat_type}

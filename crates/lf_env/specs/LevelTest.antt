@@ -1,6 +1,6 @@
 -- Whether two levels are the same under every assignment, as a test (crate lf_level has the test and its law).
-use Rattle.std.specs.Prelude.{ℕ, Bool, true, false, ◌&&◌, ◌||◌, nat_lt, if◌then◌else◌, List, [], ◌∷◌, length}
-use Rattle.lf_core.specs.Term.{Universe, level_zero, level_succ, level_max, level_imax, level_param, level_meta}
+use Rattle.std.specs.Prelude.{Bool, true, false, ◌&&◌, ◌||◌, nat_lt, if◌then◌else◌, List, [], ◌∷◌, length}
+use Rattle.lf_core.specs.Term.{Universe, level_succ, level_max, level_imax, level_meta}
 use Rattle.lf_core.specs.Same.{same_universe}
 use Rattle.lf_core.specs.Size.{level_depth}
 use Rattle.lf_level.specs.Parameters.{parameters_of}

@@ -1,11 +1,10 @@
 -- The normal form: the weak head form, and then its parts.
-use Rattle.std.specs.Prelude.{ℕ, suc, ◌^◌, true, ◌&&◌, nat_lt, if◌then◌else◌, List, [], ◌∷◌, length}
-use Rattle.lf_core.specs.Term.{Path, Universe, Term, const, app, lam, pi, lit}
+use Rattle.std.specs.Prelude.{suc, ◌^◌, true, ◌&&◌, nat_lt, if◌then◌else◌, List, [], ◌∷◌, length}
+use Rattle.lf_core.specs.Term.{Term, const, app, lam, pi, lit}
 use Rattle.lf_core.specs.Same.{same}
 use Rattle.lf_core.specs.Substitution.{abstract}
 use Rattle.lf_core.specs.Spine.{apply, head_of, arguments_of}
 use Rattle.lf_core.specs.Environment.{Context, with, nat_zero, nat_succ}
-use Rattle.lf_env.specs.View.{View}
 use Rattle.lf_env.specs.Run.{Run, ◌>>=◌, gives, put, made, opening}
 use Rattle.lf_env.specs.Calls.{Calls}
 
@@ -28,6 +27,12 @@ normalize_body_of_binder c C A b = do
   n ← c.normalize (with C A) o
   made (abstract n (length C))
 
+abbrev pub normalize_arguments : Calls → Context → Term → Run Term
+normalize_arguments c C t = do
+  xs ← normalize_all c C (arguments_of t)
+  s ← put (apply (head_of t) xs)
+  gives (as_literal s)
+
 abbrev pub normalize_parts : Calls → Context → Term → Run Term
 normalize_parts c C (lam x A b) = do
   B ← c.normalize C A
@@ -37,10 +42,7 @@ normalize_parts c C (pi x A b) = do
   B ← c.normalize C A
   d ← normalize_body_of_binder c C A b
   put (pi x B d)
-normalize_parts c C t = do
-  xs ← normalize_all c C (arguments_of t)
-  s ← put (apply (head_of t) xs)
-  gives (as_literal s)
+normalize_parts c C t = normalize_arguments c C t
 
 unfoldable pub normalize_body : Calls → Context → Term → Run Term
 normalize_body c C t = do

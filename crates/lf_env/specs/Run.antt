@@ -1,10 +1,10 @@
 -- What a call of the checker answers, from the units that it may spend, and the ways to put calls together. This project's own.
-use Rattle.std.specs.Prelude.{ℕ, zero, suc, ◌-◌, Bool, true, false, nat_lt, if◌then◌else◌, Option, Some, None, List, [], ◌∷◌, length}
-use Rattle.lf_core.specs.Term.{Path, Term, free}
+use Rattle.std.specs.Prelude.{ℕ, ◌-◌, Bool, true, false, nat_lt, if◌then◌else◌, Option, Some, None, List, [], ◌∷◌, length}
+use Rattle.lf_core.specs.Term.{Path, Term}
 use Rattle.lf_core.specs.Size.{node_count, depth}
 use Rattle.lf_core.specs.Spine.{apply}
 use Rattle.lf_core.specs.Environment.{Context, opened}
-use Rattle.lf_env.specs.View.{Need}
+use Rattle.lf_core.specs.declared.constant.TaskKey.{TaskKey}
 
 -- Why a term is refused.
 pub data Fault : Type 0 where
@@ -31,7 +31,7 @@ pub data Answer (A : Type 0) : Type 0 where
   done : A → ℕ → Answer A
   refused : Refusal → ℕ → Answer A
   out : Answer A
-  need : Need → Answer A
+  need : TaskKey → Answer A
 
 abbrev pub Run : Type 0 → Type 0
 Run A = ℕ → Answer A
@@ -55,7 +55,7 @@ refuse e = λ u. refused (record { fault = e; opened = [] }) u
 abbrev pub gives_up : {A : Type 0} → Run A
 gives_up = λ u. out
 
-abbrev pub needs : {A : Type 0} → Need → Run A
+abbrev pub needs : {A : Type 0} → TaskKey → Run A
 needs k = λ u. need k
 
 -- The first where the test holds, and else the second.

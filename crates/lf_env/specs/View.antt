@@ -1,11 +1,12 @@
 -- Views: the constants that are known at a place of a document, with those that are still to be made. This project's own.
-use Rattle.std.specs.Prelude.{◌≡◌, ◌↔◌, ◌<◌, ◌+◌, ℕ, zero, suc, Bool, true, false, ◌&&◌, ◌||◌, nat_eq, nat_lt, nat_le, if◌then◌else◌, Option, Some, None, List, [], ◌∷◌, ◌++◌, filter, codes, bytes_eq}
+use Rattle.std.specs.Prelude.{ℕ, suc, Bool, true, false, ◌&&◌, ◌||◌, nat_eq, nat_lt, nat_le, if◌then◌else◌, Option, Some, None, List, [], ◌∷◌, ◌++◌, filter, codes, bytes_eq}
 use Rattle.lf_core.specs.Term.{Path, Term}
 use Rattle.lf_core.specs.Same.{same_path}
 use Rattle.lf_core.specs.declared.constant.ConstInfo.{ConstInfo}
 use Rattle.lf_core.specs.declared.constant.ConstKind.{ConstKind}
-use Rattle.lf_core.specs.declared.constant.ConstKind.TheVariants.{Axiom, Def, Theorem, Inductive, Constructor, Recursor}
-use Rattle.lf_core.specs.declared.constant.Detail.{Detail}
+use Rattle.lf_core.specs.declared.constant.ConstKind.TheVariants.{Axiom, Def, Constructor}
+use Rattle.lf_core.specs.declared.constant.TaskKey.{TaskKey}
+use Rattle.lf_core.specs.declared.constant.TaskKey.TheVariants.{Body, Real}
 
 -- A constant and the position of its command; the base has the greatest position and stands before all others.
 pub record Entry : Type 0 where
@@ -131,45 +132,40 @@ by_entry V n None = by_branch V n (branch_over V.branches n)
 abbrev pub lookup_of : View → Path → Lookup
 lookup_of V n = by_entry V n (find_entry V.entries n)
 
--- What has to be made before a question can be answered: a body, or a realized name.
-pub data Need : Type 0 where
-  body : ℕ → Need
-  real : Path → Need
+-- A definition's value with its height, where it is known; or the task that has to be done first.
+pub data KnownBody : Type 0 where
+  value : Term → ℕ → KnownBody
+  opaque : KnownBody
+  unresolved : TaskKey → KnownBody
 
--- A definition's value with its height, where it is known.
-pub data Body : Type 0 where
-  value : Term → ℕ → Body
-  opaque : Body
-  unresolved : Need → Body
-
-abbrev pub known_body : Option Term → ℕ → Body
+abbrev pub known_body : Option Term → ℕ → KnownBody
 known_body (Some v) h = value v h
 known_body None h = opaque
 
-abbrev pub definition_body : ConstInfo → Option ℕ → Body
-definition_body c (Some p) = unresolved (body p)
+abbrev pub definition_body : ConstInfo → Option ℕ → KnownBody
+definition_body c (Some p) = unresolved (Body p)
 definition_body c None = known_body c.value c.height
 
-abbrev pub body_in : View → ConstInfo → Body
+abbrev pub body_in : View → ConstInfo → KnownBody
 body_in V c = if is_definition c.kind then definition_body c (find_branch V.branches c.name) else opaque
 
-abbrev pub found_body : View → Path → Lookup → Body
+abbrev pub found_body : View → Path → Lookup → KnownBody
 found_body V n (found c) = body_in V c
 found_body V n absent = opaque
-found_body V n (need_body p) = unresolved (body p)
-found_body V n need_real = unresolved (real n)
+found_body V n (need_body p) = unresolved (Body p)
+found_body V n need_real = unresolved (Real n)
 
-abbrev pub body_of : View → Path → Body
+abbrev pub body_of : View → Path → KnownBody
 body_of V n = found_body V n (lookup_of V n)
 
 -- Whether a name is there, as the test of a duplicate asks: a realized name never is.
 pub data There : Type 0 where
   there : ℕ → There
   not_there : There
-  not_known : Need → There
+  not_known : TaskKey → There
 
 abbrev pub no_entry : Lookup → There
-no_entry (need_body p) = not_known (body p)
+no_entry (need_body p) = not_known (Body p)
 no_entry _ = not_there
 
 abbrev pub there_by : Lookup → Option Entry → There

@@ -1,6 +1,6 @@
 -- The weak head form: reduction at the head, in one call, until no rule applies.
 use Rattle.std.specs.Prelude.{ℕ, zero, suc, ◌+◌, ◌^◌, Bool, true, false, ◌&&◌, nat_eq, nat_lt, if◌then◌else◌, Option, Some, None, is_some, List, [], ◌∷◌, length, slice_get, take, drop}
-use Rattle.lf_core.specs.Term.{Path, Universe, level_zero, Term, sort, const, app, lam, letin, lit}
+use Rattle.lf_core.specs.Term.{Path, Universe, level_zero, Term, const, app, lam, letin, lit}
 use Rattle.lf_core.specs.Same.{same, same_path}
 use Rattle.lf_core.specs.Substitution.{instantiate, level_instantiate}
 use Rattle.lf_core.specs.Spine.{apply, head_of, arguments_of}
@@ -11,10 +11,10 @@ use Rattle.lf_core.specs.Step.{literal_term, by_rule}
 use Rattle.lf_core.specs.Judgment.{result_level}
 use Rattle.lf_core.specs.declared.constant.Detail.{Detail}
 use Rattle.lf_core.specs.declared.constant.Detail.TheVariants.{Ind, Ctor, Rec}
-use Rattle.lf_env.specs.View.{View, Body, value, opaque, unresolved, body_of}
+use Rattle.lf_env.specs.View.{View, KnownBody, value, opaque, unresolved, body_of}
 use Rattle.lf_env.specs.Extends.{Shape}
 use Rattle.lf_env.specs.LevelTest.{is_same}
-use Rattle.lf_env.specs.Run.{Run, ◌>>=◌, gives, gives_up, needs, choose, attempt, put, made_before}
+use Rattle.lf_env.specs.Run.{Run, ◌>>=◌, gives, gives_up, needs, choose, attempt, put, made, made_before}
 use Rattle.lf_env.specs.Calls.{checked, Calls, Seen, known, unknown, missing, see}
 
 pub data Progress : Type 0 where
@@ -52,10 +52,10 @@ split n [] = None
 split zero (x ∷ xs) = Some (record { before = []; major = x; after = xs })
 split (suc n) (x ∷ xs) = one_before x (split n xs)
 
--- The constructor that a literal is.
+-- The constructor that a literal below 2^128 is.
 abbrev pub constructor_of : Term → Term
 constructor_of (lit zero) = nat_zero
-constructor_of (lit (suc n)) = app nat_succ (lit n)
+constructor_of (lit (suc n)) = if nat_lt (suc n) (2 ^ 128) then app nat_succ (lit n) else lit (suc n)
 constructor_of t = t
 
 -- The parameters, motive and minor premises, which a rule takes.
@@ -63,10 +63,7 @@ abbrev pub shared : Recursor → ℕ
 shared r = r.params + 1 + r.minors
 
 abbrev pub fire_rule : Recursor → List Universe → Split → ℕ → List Term → Option Term → Run Progress
-fire_rule r ls s own ys (Some rule) = goes (made_rule (apply (by_rule rule ls (shared r) s.before (drop own ys)) s.after))
-  where
-    made_rule : Term → Run Term
-    made_rule t = made_before [] t
+fire_rule r ls s own ys (Some rule) = goes (made (apply (by_rule rule ls (shared r) s.before (drop own ys)) s.after))
 fire_rule r ls s own ys None = gives stays
 
 abbrev pub fire_detail : Recursor → List Universe → Split → List Term → Detail → Run Progress
@@ -100,12 +97,13 @@ put_in V c C ls r s w n = do
     c.equal C S T
   choose (is_true same_type) (fire V r ls s ctor) (gives stays)
 
-abbrev pub is_fieldless : Path → Detail → Bool
-is_fieldless n (Ctor ind index own fields) = same_path ind n && nat_eq fields 0
-is_fieldless n _ = false
+-- A constructor of the recursor's type that has its parameters and no fields.
+abbrev pub is_fieldless : Recursor → Detail → Bool
+is_fieldless r (Ctor ind index own fields) = same_path ind r.ind && (nat_eq own r.params && nat_eq fields 0)
+is_fieldless r _ = false
 
 abbrev pub put_in_seen : View → Calls → Context → List Universe → Recursor → Split → Term → Path → Seen → Run Progress
-put_in_seen V c C ls r s w n (known d) = choose (is_fieldless r.ind d.detail) (put_in V c C ls r s w n) (gives stays)
+put_in_seen V c C ls r s w n (known d) = choose (is_fieldless r d.detail) (put_in V c C ls r s w n) (gives stays)
 put_in_seen V c C ls r s w n unknown = gives stays
 put_in_seen V c C ls r s w n (missing k) = needs k
 
@@ -163,7 +161,7 @@ literal_turn c C n ls xs rest = rest
 
 -- ---- Turns.
 
-abbrev pub by_body : List Universe → List Term → Body → Run Progress
+abbrev pub by_body : List Universe → List Term → KnownBody → Run Progress
 by_body ls xs (value v h) = goes (made_before xs (level_instantiate ls v))
 by_body ls xs opaque = gives stays
 by_body ls xs (unresolved k) = needs k

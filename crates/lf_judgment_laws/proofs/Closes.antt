@@ -1,12 +1,11 @@
 -- The constants of a derived environment are closed.
-use Rattle.std.proofs.Common.{◌≡◌, ◌<◌, ℕ, zero, suc, [], ◌∷◌, ◌++◌, ◌⊎◌, inl, inr, refl, sym, ap, subst, arith, Some, None, Contains, ◌∙◌}
+use Rattle.std.proofs.Common.{◌≡◌, zero, suc, [], ◌∷◌, ◌++◌, ◌⊎◌, inl, inr, sym, subst, arith, Some, None, Contains, ◌∙◌}
 use Rattle.std.proofs.lemmas.List.Elements.{Contains-append_cases}
 use Rattle.lf_core.specs.Term.{Term}
 use Rattle.lf_core.specs.Scope.{Scoped}
 use Rattle.lf_core.specs.Environment.{Environment}
 use Rattle.lf_core.specs.Derived.{Stated, Derived, empty, with_axiom, with_value}
 use Rattle.lf_core.specs.declared.constant.ConstInfo.{ConstInfo}
-use Rattle.lf_core.specs.declared.constant.Detail.TheVariants.{Plain}
 use Rattle.lf_judgment_laws.specs.InScope.{RulesClosed, ConstantClosed, EnvironmentClosed}
 use Rattle.lf_judgment_laws.proofs.Scopes.{typed_scoped}
 

@@ -1,10 +1,9 @@
 -- What the looser relations give.
-use Rattle.std.proofs.Common.{◌≡◌, ℕ, suc, ◌+◌, ◌-◌, nat_eq, nat_lt, if◌then◌else◌, [], ◌∷◌, length, refl, ap, ap₂, subst, arith, codes}
-use Rattle.std.proofs.lemmas.Option.{slice_get_within}
+use Rattle.std.proofs.Common.{◌≡◌, ℕ, suc, ◌+◌, ◌-◌, nat_eq, if◌then◌else◌, [], ◌∷◌, refl, ap, ap₂, subst, arith, codes}
 use Rattle.lf_core.specs.Term.{Universe, level_zero, level_succ, Term, bound, free, meta, sort, const, app, lam, pi, letin, lit}
 use Rattle.lf_core.specs.Substitution.{raise, instantiate_at, instantiate}
 use Rattle.lf_core.specs.Scope.{Scoped}
-use Rattle.lf_core.specs.Environment.{Environment, Context}
+use Rattle.lf_core.specs.Environment.{Environment}
 use Rattle.lf_core.specs.Step.{beta}
 use Rattle.lf_core.specs.declared.binder.Binder.{Binder}
 use Rattle.lf_core.specs.declared.binder.BinderKind.TheVariants.{Explicit}

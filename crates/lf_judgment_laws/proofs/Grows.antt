@@ -1,5 +1,5 @@
 -- Derivations over an environment hold over each that tells at least as much.
-use Rattle.std.proofs.Common.{◌≡◌, ◌+◌, ◌++◌, ℕ, List, Some, None, Contains, length, take, drop, slice_get, sym, ap, subst, ◌∙◌}
+use Rattle.std.proofs.Common.{◌≡◌, ◌+◌, List, Contains, length, drop, sym, ap, subst, ◌∙◌}
 use Rattle.lf_core.specs.Term.{Path, Universe, Term, bound, free, meta, sort, const, app, lam, pi, letin, lit}
 use Rattle.lf_core.specs.Substitution.{level_instantiate}
 use Rattle.lf_core.specs.Spine.{apply}

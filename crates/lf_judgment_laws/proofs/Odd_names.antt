@@ -1,16 +1,16 @@
 -- Two lists of constants from which falsity follows.
-use Rattle.std.proofs.Common.{◌≡◌, ◌<◌, ℕ, zero, suc, List, [], ◌∷◌, refl, sym, ap, arith, inl, Some, None, Contains, length, slice_index_or, codes}
+use Rattle.std.proofs.Common.{◌≡◌, [], ◌∷◌, refl, ap, arith, inl, Some, None, length, slice_index_or, codes}
 use Rattle.lf_core.specs.Term.{Path, Universe, level_zero, level_succ, level_imax, Term, bound, free, sort, const, app, lam, pi, lit}
 use Rattle.lf_core.specs.Scope.{Scoped}
 use Rattle.lf_core.specs.Environment.{Environment, nat, nat_type, nat_succ, Declared}
 use Rattle.lf_core.specs.declared.literal.LitOut.TheVariants.{Nat}
 use Rattle.lf_core.specs.Step.{beta, delta, literal_succ, operation}
 use Rattle.lf_core.specs.Judgment.{Equal, symmetric, transitive, reflexive, applications, sorts, step, HasType, variable, sort_type, constant, application, lambda, pi_type, literal, conversion, has_type}
-use Rattle.lf_core.specs.Derived.{Checked, Stated, Derived, empty, with_axiom, with_value}
+use Rattle.lf_core.specs.Derived.{Derived, empty, with_axiom, with_value}
 use Rattle.lf_core.specs.declared.constant.ConstInfo.{ConstInfo}
 use Rattle.lf_core.specs.declared.constant.ConstKind.TheVariants.{Axiom, Def}
 use Rattle.lf_core.specs.declared.constant.Detail.TheVariants.{Plain}
-use Rattle.lf_judgment_laws.specs.Names.{falsity, RightBesideName, TwiceNamed, OddNumbers}
+use Rattle.lf_judgment_laws.specs.Names.{falsity, TwiceNamed, OddNumbers}
 use Rattle.lf_judgment_laws.proofs.Collapses.{named}
 use Rattle.lf_judgment_laws.proofs.Freshness.{fresh_from}
 

@@ -1,9 +1,9 @@
 -- Two proofs of a proposition are equal, so are their applications to what has not their type, and these step.
-use Rattle.std.proofs.Common.{◌≡◌, ◌<◌, ℕ, zero, suc, [], ◌∷◌, length, refl, subst, arith, Some, slice_get, codes}
+use Rattle.std.proofs.Common.{ℕ, [], ◌∷◌, refl, subst, arith}
 use Rattle.lf_core.specs.Term.{level_zero, level_succ, level_imax, Term, bound, free, sort, app, lam, pi}
 use Rattle.lf_core.specs.Substitution.{raise}
 use Rattle.lf_core.specs.Scope.{Scoped}
-use Rattle.lf_core.specs.Environment.{Environment, Context, with}
+use Rattle.lf_core.specs.Environment.{Environment}
 use Rattle.lf_core.specs.Step.{beta}
 use Rattle.lf_judgment_laws.specs.Untyped.{UntypedEqual, reflexive, symmetric, transitive, applications, sorts, step, proof_irrelevance, UntypedType, variable, sort_type, lambda, pi_type, conversion, Alike}
 use Rattle.lf_judgment_laws.proofs.Variables.{raise-scoped}

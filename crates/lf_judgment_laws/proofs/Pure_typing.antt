@@ -1,5 +1,5 @@
 -- The pure relations, and these.
-use Rattle.std.proofs.Common.{length, ◌≡◌, ℕ, List, [], ◌∷◌, refl, sym, ap, subst}
+use Rattle.std.proofs.Common.{length, ◌≡◌, List, [], ◌∷◌, refl, sym, ap, subst}
 use Rattle.lf_core.specs.Term.{Universe, Term, sort, const, app, lam, pi, letin}
 use Rattle.lf_core.specs.Level.{AllSame}
 use Rattle.lf_core.specs.Spine.{apply}

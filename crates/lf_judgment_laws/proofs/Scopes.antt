@@ -1,5 +1,5 @@
 -- Typing and equality keep to the variables of the context.
-use Rattle.std.proofs.Common.{◌≡◌, ◌<◌, ℕ, suc, ◌+◌, ◌++◌, ◌↔◌, List, Some, true, false, length, subst, take, drop, zero-le, arith}
+use Rattle.std.proofs.Common.{ℕ, ◌+◌, ◌++◌, ◌↔◌, List, true, false, length, subst, take, drop, zero-le, arith}
 use Rattle.std.proofs.lemmas.Option.{slice_get_within}
 use Rattle.lf_core.specs.Term.{Universe, Term, const}
 use Rattle.lf_core.specs.Substitution.{level_instantiate}
@@ -10,7 +10,7 @@ use Rattle.lf_core.specs.declared.literal.LitOut.TheVariants.{Nat, Bool}
 use Rattle.lf_core.specs.Step.{Step, beta, zeta, delta, iota, literal_zero, literal_succ, operation, literal_term}
 use Rattle.lf_core.specs.Judgment.{Equal, reflexive, symmetric, transitive, applications, lambdas, pis, lets, sorts, constants, step, eta, proof_irrelevance, declared_irrelevance, HasType, variable, sort_type, constant, application, lambda, pi_type, let_type, literal, conversion}
 use Rattle.lf_core.specs.declared.constant.Detail.TheVariants.{Rec}
-use Rattle.lf_judgment_laws.specs.InScope.{RulesClosed, ConstantClosed, EnvironmentClosed, AllScoped, ContextScoped, KeepsScope}
+use Rattle.lf_judgment_laws.specs.InScope.{RulesClosed, EnvironmentClosed, AllScoped, ContextScoped, KeepsScope}
 use Rattle.lf_judgment_laws.proofs.Variables.{scoped_up, scoped_instantiate, all_get, scoped_apply, scoped_levels, all_append, all_take, all_drop, scoped_of_apply}
 
 abbrev In : Context → Term → Type 0

@@ -11,59 +11,49 @@ ghost use Rattle.lf_judgment_laws.specs.Untyped.{UntypedCollapses};
 /// Typed terms and their types are in scope, and equality keeps scope.
 pub fn relations_keep_scope()
     ensures { RelationsKeepScope }
-{
-}
+{}
 
 /// The constants of a derived environment are closed.
 pub fn derived_environments_are_closed()
     ensures { DerivedIsClosed }
-{
-}
+{}
 
 /// What holds over an environment holds over each that tells at least as much.
 pub fn relations_grow_with_the_environment()
     ensures { RelationsGrow }
-{
-}
+{}
 
 /// Typing is the one in which both sides of each equation have a type, where that has the properties known of it.
 pub fn typing_is_the_pure_one()
     ensures { TypingIsPure }
-{
-}
+{}
 
 /// Why bodies are opened by a new variable.
 pub fn bodies_opened_by_old_variables_make_all_equal()
     ensures { UnfreshCollapses }
-{
-}
+{}
 
 /// Why substitution lifts what it puts in.
 pub fn captured_variables_make_all_literals_equal()
     ensures { CapturingCollapses }
-{
-}
+{}
 
 /// Why the codomain of a lambda's type is asked to be in scope.
 pub fn partial_abstraction_inhabits_every_type()
     ensures { PartialCollapses }
-{
-}
+{}
 
 /// Why steps are asked to start from formed terms.
 pub fn steps_of_unformed_terms_make_all_equal()
     ensures { UntypedCollapses }
-{
-}
+{}
 
 /// Why names are fresh: with two constants of one name, each right over those before it, falsity has a proof.
 pub fn names_must_be_fresh()
     ensures { TwiceNamed }
-{
-}
+{}
 
 /// Why the base is part of what is believed: where the constants that literals name are others, falsity has a proof.
 pub fn numbers_must_be_ordinary()
     ensures { OddNumbers }
-{
-}
+{}

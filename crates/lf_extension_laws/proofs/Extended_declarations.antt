@@ -1,17 +1,16 @@
 -- The extension law of the tests of declarations.
-use Rattle.std.proofs.Common.{◌≡◌, ℕ, zero, suc, Bool, true, false, ◌&&◌, if◌then◌else◌, List, [], ◌∷◌, Option, Some, None, refl, sym, ap, subst, ◌∙◌}
-use Rattle.lf_core.specs.Term.{Path, Universe, Term, bound, free, meta, sort, const, app, lam, pi, letin, lit}
+use Rattle.std.proofs.Common.{◌≡◌, ℕ, suc, Bool, true, false, ◌&&◌, if◌then◌else◌, List, [], ◌∷◌, Option, Some, None, refl, sym, ap, subst, ◌∙◌}
+use Rattle.lf_core.specs.Term.{Path, Term, bound, free, meta, sort, const, app, lam, pi, letin, lit}
 use Rattle.lf_core.specs.Same.{same_path}
-use Rattle.lf_core.specs.declared.constant.ConstInfo.{ConstInfo}
-use Rattle.lf_env.specs.View.{View, Entry, find_entry, placed_from, placed_of, Lookup, found, absent, need_body, need_real, by_entry, lookup_of, There, there, not_there, not_known, no_entry, there_by, there_of, body_of}
-use Rattle.lf_env.specs.Extends.{SameFound, SameLookup, IsAnswered, position_placed, Extends}
-use Rattle.lf_env.specs.Run.{Answer, Run, gives, refuse, choose, not_closed}
+use Rattle.lf_env.specs.View.{View, Entry, find_entry, placed_from, Lookup, found, absent, need_body, need_real, by_entry, lookup_of, There, there, not_there, not_known, no_entry, there_by, there_of, body_of}
+use Rattle.lf_env.specs.Extends.{SameLookup, IsAnswered, position_placed, Extends}
+use Rattle.lf_env.specs.Run.{Run, refuse, not_closed}
 use Rattle.lf_env.specs.Calls.{checked, Seen, known, unknown, missing, see}
 use Rattle.lf_env.specs.Infer.{sort_of}
-use Rattle.lf_env.specs.Checker.{calls, is_closed, is_value_closed, unless_there, add_header, body_height, seen_height, greatest_height, height_of, check_value, add_decl}
-use Rattle.lf_checker_laws.specs.Extension.{Kept, Agree, AgreeOn, ExtensionLaw}
-use Rattle.lf_checker_laws.proofs.Kept.{kept_self, kept_then, kept_choose, see_kept, body_kept, kept_seen, kept_body}
-use Rattle.lf_checker_laws.proofs.Extended.{kept_sort, calls_kept}
+use Rattle.lf_env.specs.Checker.{calls, is_closed, is_value_closed, unless_there, body_height, seen_height, greatest_height, height_of, check_value}
+use Rattle.lf_extension_laws.specs.Extension.{Kept, Agree, ExtensionLaw}
+use Rattle.lf_extension_laws.proofs.Kept.{kept_self, kept_then, kept_choose, see_kept, body_kept, kept_seen, kept_body}
+use Rattle.lf_extension_laws.proofs.Extended.{kept_sort, calls_kept}
 
 abbrev place_of : Option Entry → Option ℕ
 place_of (Some e) = Some e.position
@@ -129,7 +128,7 @@ pub extension_law : ExtensionLaw
 extension_law U V x depth = record {
   calls = calls_kept U V x depth;
   add_header = λ n ty u. kept_choose (is_closed ty) (unless_there n (there_of U n) (sort_of (calls U depth) checked [] ty)) (refuse not_closed) (unless_there n (there_of V n) (sort_of (calls V depth) checked [] ty)) (refuse not_closed) u
-    (kept_unless n (there_of U n) (there_of V n) (sort_of (calls U depth) checked [] ty) (sort_of (calls V depth) checked [] ty) u (there_kept U V x n) (kept_sort (calls U depth) (calls V depth) (calls_kept U V x depth) checked [] ty u)) refl;
+      (kept_unless n (there_of U n) (there_of V n) (sort_of (calls U depth) checked [] ty) (sort_of (calls V depth) checked [] ty) u (there_kept U V x n) (kept_sort (calls U depth) (calls V depth) (calls_kept U V x depth) checked [] ty u)) refl;
   add_decl = λ c u. kept_choose (is_closed c.ty && is_value_closed c.value) (unless_there c.name (there_of U c.name) (check_value U depth c.ty c.value)) (refuse not_closed) (unless_there c.name (there_of V c.name) (check_value V depth c.ty c.value)) (refuse not_closed) u
-    (kept_unless c.name (there_of U c.name) (there_of V c.name) (check_value U depth c.ty c.value) (check_value V depth c.ty c.value) u (there_kept U V x c.name) (kept_check_value U V x depth c.ty c.value u)) refl;
+      (kept_unless c.name (there_of U c.name) (there_of V c.name) (check_value U depth c.ty c.value) (check_value V depth c.ty c.value) u (there_kept U V x c.name) (kept_check_value U V x depth c.ty c.value u)) refl;
 }

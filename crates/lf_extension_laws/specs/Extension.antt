@@ -5,7 +5,7 @@ use Rattle.lf_core.specs.Environment.{Context}
 use Rattle.lf_core.specs.declared.constant.ConstInfo.{ConstInfo}
 use Rattle.lf_env.specs.View.{View}
 use Rattle.lf_env.specs.Extends.{Extends}
-use Rattle.lf_env.specs.Run.{Answer, done, refused, out, need}
+use Rattle.lf_env.specs.Run.{Answer, need}
 use Rattle.lf_env.specs.Calls.{Mode, Calls}
 use Rattle.lf_env.specs.Checker.{calls, add_header, add_decl}
 

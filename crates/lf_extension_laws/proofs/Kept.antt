@@ -1,13 +1,14 @@
 -- Runs of which the second tells all that the first tells, through the ways to put runs together.
-use Rattle.std.proofs.Common.{◌≡◌, ℕ, zero, suc, ◌-◌, Bool, true, false, nat_lt, if◌then◌else◌, List, [], ◌∷◌, length, Option, Some, None, refl, sym, ap, subst, ◌∙◌}
-use Rattle.lf_core.specs.Term.{Path, Universe, Term, sort, pi}
+use Rattle.std.proofs.Common.{◌≡◌, ℕ, ◌-◌, Bool, true, false, nat_lt, if◌then◌else◌, Some, None, refl, sym, ap, subst}
+use Rattle.lf_core.specs.Term.{Path, Term, pi}
 use Rattle.lf_core.specs.declared.constant.ConstInfo.{ConstInfo}
-use Rattle.lf_env.specs.View.{View, Lookup, found, absent, need_body, need_real, lookup_of, Need, Body, value, opaque, unresolved, found_body, body_of}
+use Rattle.lf_core.specs.declared.constant.TaskKey.{TaskKey}
+use Rattle.lf_env.specs.View.{View, Lookup, found, absent, need_body, need_real, lookup_of, KnownBody, value, opaque, unresolved, found_body, body_of}
 use Rattle.lf_env.specs.Extends.{shape_of, SameFound, SameLookup, SameBody, Extends}
-use Rattle.lf_env.specs.Run.{Answer, done, refused, out, need, Run, go_on, choose, spend, caught, attempt, named_in, under, Refusal}
-use Rattle.lf_env.specs.Calls.{Calls, Seen, known, unknown, missing, seen_as, see}
+use Rattle.lf_env.specs.Run.{Answer, done, refused, out, need, Run, go_on, choose, spend, caught, named_in}
+use Rattle.lf_env.specs.Calls.{Seen, known, unknown, missing, seen_as, see}
 use Rattle.lf_env.specs.Infer.{on_pi}
-use Rattle.lf_checker_laws.specs.Extension.{Kept}
+use Rattle.lf_extension_laws.specs.Extension.{Kept}
 
 pub kept_self : {A : Type 0} (o : Answer A) → Kept o o
 kept_self (done x u) = refl
@@ -82,12 +83,12 @@ pub body_kept : (U V : View) → Extends V U → (n : Path) → SameBody (body_o
 body_kept U V x n = body_by U V x n (lookup_of U n) refl
 
 -- By what is seen, where the first run has nothing but the need.
-pub kept_seen : {A : Type 0} (s t : Seen) (f g : Seen → Answer A) → ((k : Need) → f (missing k) ≡ need k) → ((r : Seen) → Kept (f r) (g r)) → SameSeen s t → Kept (f s) (g t)
+pub kept_seen : {A : Type 0} (s t : Seen) (f g : Seen → Answer A) → ((k : TaskKey) → f (missing k) ≡ need k) → ((r : Seen) → Kept (f r) (g r)) → SameSeen s t → Kept (f s) (g t)
 kept_seen (known c) t f g w h e = subst (λ r. Kept (f (known c)) (g r)) e (h (known c))
 kept_seen unknown t f g w h e = subst (λ r. Kept (f unknown) (g r)) e (h unknown)
 kept_seen (missing k) t f g w h e = subst (λ r. Kept r (g t)) (sym (w k)) tt
 
-pub kept_body : {A : Type 0} (a b : Body) (f g : Body → Answer A) → ((k : Need) → f (unresolved k) ≡ need k) → ((r : Body) → Kept (f r) (g r)) → SameBody a b → Kept (f a) (g b)
+pub kept_body : {A : Type 0} (a b : KnownBody) (f g : KnownBody → Answer A) → ((k : TaskKey) → f (unresolved k) ≡ need k) → ((r : KnownBody) → Kept (f r) (g r)) → SameBody a b → Kept (f a) (g b)
 kept_body (value v n) b f g w h e = subst (λ r. Kept (f (value v n)) (g r)) e (h (value v n))
 kept_body opaque b f g w h e = subst (λ r. Kept (f opaque) (g r)) e (h opaque)
 kept_body (unresolved k) b f g w h e = subst (λ r. Kept r (g b)) (sym (w k)) tt

@@ -1,26 +1,24 @@
 -- The extension law, function by function.
-use Rattle.std.proofs.Common.{◌≡◌, ℕ, zero, suc, Bool, true, false, if◌then◌else◌, ◌+◌, nat_eq, List, [], ◌∷◌, length, Option, Some, None, refl, sym, ap, subst}
-use Rattle.lf_core.specs.Term.{Path, Universe, Term, bound, free, meta, sort, const, app, lam, pi, letin, lit}
+use Rattle.std.proofs.Common.{ℕ, zero, suc, Bool, true, false, ◌+◌, ◌^◌, ◌&&◌, nat_eq, nat_lt, List, [], ◌∷◌, length, Option, Some, None, refl}
+use Rattle.lf_core.specs.Term.{Path, Universe, Term, sort, const, app, lam, pi, letin, lit}
 use Rattle.lf_core.specs.Spine.{head_of, arguments_of}
 use Rattle.lf_core.specs.Same.{same}
 use Rattle.lf_core.specs.Environment.{Context, nat_succ}
 use Rattle.lf_core.specs.Literal.{literal_operation}
 use Rattle.lf_core.specs.declared.literal.LitOut.{LitOut}
-use Rattle.lf_core.specs.Judgment.{result_level}
-use Rattle.lf_core.specs.declared.constant.ConstInfo.{ConstInfo}
 use Rattle.lf_core.specs.declared.constant.Detail.{Detail}
-use Rattle.lf_core.specs.declared.constant.Detail.TheVariants.{Plain, Ind, Ctor, Rec}
-use Rattle.lf_env.specs.View.{View, There, there, not_there, not_known, there_of, body_of}
+use Rattle.lf_core.specs.declared.constant.Detail.TheVariants.{Ind, Rec}
+use Rattle.lf_env.specs.View.{View, body_of}
 use Rattle.lf_env.specs.Extends.{Shape, Extends}
-use Rattle.lf_env.specs.Run.{Answer, Run, ◌>>=◌, gives, spend}
+use Rattle.lf_env.specs.Run.{Run, ◌>>=◌, gives}
 use Rattle.lf_env.specs.Calls.{Mode, checked, unchecked, Calls, Seen, known, unknown, missing, see}
-use Rattle.lf_env.specs.Whnf.{Progress, stays, next, ends, Recursor, Split, fire_rule, fire_detail, fire_seen, fire_head, fire, put_in, put_in_seen, is_prop_level, like_k, or_like_k, at_major, shared, split, recursor_turn, operated, on_numbers, operands, literal_turn, by_body, delta_turn, detail_turn, constant_turn, head_turn, whnf_turn, turn_limit, whnf_loop, whnf_body}
+use Rattle.lf_env.specs.Whnf.{Progress, stays, next, ends, Recursor, Split, fire_seen, fire_head, fire, put_in, put_in_seen, like_k, or_like_k, at_major, shared, split, recursor_turn, operated, on_numbers, operands, literal_turn, by_body, delta_turn, detail_turn, constant_turn, head_turn, whnf_turn, turn_limit, whnf_loop, whnf_body}
 use Rattle.lf_env.specs.Infer.{of_constant, sort_of, is_type, argument_fits, value_fits, infer_body}
-use Rattle.lf_env.specs.Equal.{Verdict, decided, again, undecided, decided_by, or_else, decides, when_true, if_true, and_then, equal_binders, by_form, by_whnf, proposition_of, proves, by_proofs, expanded, expansion_of, eta_expansion, against_left, against_right, by_eta, literal_against, by_literals, equal_all, by_arguments, Definition, of_body, definition_seen, definition_of, by_height, by_unfolding, by_types, by_heads, equal_turn, equal_loop, equal_body}
-use Rattle.lf_env.specs.Normalize.{normalize_all, normalize_body_of_binder, normalize_parts, normalize_body}
-use Rattle.lf_env.specs.Checker.{turn, calls, unless_there, add_header, body_height, seen_height, greatest_height, height_of, check_value, add_decl}
-use Rattle.lf_checker_laws.specs.Extension.{Kept, Agree, AgreeOn}
-use Rattle.lf_checker_laws.proofs.Kept.{kept_self, kept_then, kept_caught, kept_named, kept_spend, kept_choose, kept_on_pi, see_kept, body_kept, kept_seen, kept_body}
+use Rattle.lf_env.specs.Equal.{Verdict, decided, again, undecided, decided_by, or_else, decides, when_true, and_then, equal_binders, by_form, by_whnf, proposition_of, proves, by_proofs, expansion_of, eta_expansion, against_left, against_right, by_eta, by_predecessors, by_literals, equal_all, by_arguments, of_body, definition_seen, definition_of, by_unfolding, by_types, by_heads, equal_turn, equal_loop, equal_body}
+use Rattle.lf_env.specs.Normalize.{normalize_all, normalize_body_of_binder, normalize_arguments, normalize_parts, normalize_body}
+use Rattle.lf_env.specs.Checker.{turn, calls}
+use Rattle.lf_extension_laws.specs.Extension.{Kept, Agree}
+use Rattle.lf_extension_laws.proofs.Kept.{kept_self, kept_then, kept_caught, kept_named, kept_spend, kept_choose, kept_on_pi, see_kept, body_kept, kept_seen, kept_body}
 
 ruleset kept = (kept_self, kept_then, kept_caught, kept_named, kept_spend, kept_choose, kept_on_pi)
 
@@ -212,16 +210,12 @@ kept_eta c d a C (lam y A b) r u = kept_to_left c d a C (lam y A b) r u
 kept_eta c d a C l (lam z B e) u = kept_to_right c d a C l (lam z B e) u
 kept_eta c d a C l r u = refl
 
-kept_literal_against : (m n : Run Bool) (k : ℕ) (f t : Term) (u : ℕ) → Kept (m u) (n u) → Kept (literal_against m k f t u) (literal_against n k f t u)
-kept_literal_against m n k f t u h = at (same f nat_succ)
-  where
-    at : (b : Bool) → Kept ((if b then decides m else gives undecided) u) ((if b then decides n else gives undecided) u)
-    at true = kept_then (m u) (n u) _ _ h (λ r v. refl)
-    at false = refl
+kept_predecessors : (n : ℕ) (f : Term) (m k : Run Bool) (u : ℕ) → Kept (m u) (k u) → Kept (by_predecessors n f m u) (by_predecessors n f k u)
+kept_predecessors n f m k u h = kept_choose (same f nat_succ && nat_lt n (2 ^ 128)) (decides m) (gives undecided) (decides k) (gives undecided) u (kept_then (m u) (k u) _ _ h (λ r v. refl)) refl
 
 kept_literals : (c d : Calls) → Agree c d → (C : Context) (l r : Term) (u : ℕ) → Kept (by_literals c C l r u) (by_literals d C l r u)
-kept_literals c d a C (lit (suc n)) (app f t) u = kept_literal_against (c.equal C (lit n) t) (d.equal C (lit n) t) n f t u (a.equal C (lit n) t u)
-kept_literals c d a C (app f t) (lit (suc n)) u = kept_literal_against (c.equal C t (lit n)) (d.equal C t (lit n)) n f t u (a.equal C t (lit n) u)
+kept_literals c d a C (lit (suc n)) (app f t) u = kept_predecessors (suc n) f (c.equal C (lit n) t) (d.equal C (lit n) t) u (a.equal C (lit n) t u)
+kept_literals c d a C (app f t) (lit (suc n)) u = kept_predecessors (suc n) f (c.equal C t (lit n)) (d.equal C t (lit n)) u (a.equal C t (lit n) u)
 kept_literals c d a C (lit m) (lit n) u = refl
 kept_literals c d a C (lit zero) (const n ls) u = refl
 kept_literals c d a C (const n ls) (lit zero) u = refl
@@ -299,10 +293,13 @@ kept_normalize_all c d a C (x ∷ xs) u =
 kept_normalize_binder : (c d : Calls) → Agree c d → (C : Context) (A b : Term) (u : ℕ) → Kept (normalize_body_of_binder c C A b u) (normalize_body_of_binder d C A b u)
 kept_normalize_binder c d a C A b u = search (kept, a.normalize) depth 8
 
+kept_normalize_arguments : (c d : Calls) → Agree c d → (C : Context) (t : Term) (u : ℕ) → Kept (normalize_arguments c C t u) (normalize_arguments d C t u)
+kept_normalize_arguments c d a C t u = search (kept, kept_normalize_all c d a) depth 8
+
 kept_parts : (c d : Calls) → Agree c d → (C : Context) (t : Term) (u : ℕ) → Kept (normalize_parts c C t u) (normalize_parts d C t u)
 kept_parts c d a C (lam x A b) u = search (kept, kept_normalize_binder c d a, a.normalize) depth 8
 kept_parts c d a C (pi x A b) u = search (kept, kept_normalize_binder c d a, a.normalize) depth 8
-kept_parts c d a C _ u = search (kept, kept_normalize_all c d a) depth 8
+kept_parts c d a C t u = kept_normalize_arguments c d a C t u
 
 kept_normalize : (c d : Calls) → Agree c d → (C : Context) (t : Term) (u : ℕ) → Kept (normalize_body c C t u) (normalize_body d C t u)
 unfolding normalize_body

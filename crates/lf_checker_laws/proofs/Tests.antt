@@ -1,0 +1,134 @@
+-- What the tests of names, levels and terms tell.
+use Rattle.std.proofs.Common.{◌≡◌, ℕ, ◌≤◌, true, false, ◌&&◌, ◌||◌, nat_lt, length, List, [], ◌∷◌, refl, sym, ap, ap₂, ◌∙◌, ◌↔◌, arith, true≢false}
+use Rattle.std.specs.Str.{bytes_eq}
+use Rattle.std.proofs.lemmas.Bool.{cond_both, eqb-true, ltb-true, ltb-false, and_parts, or_parts, or_from, cond-false, false_from_ne_true}
+use Rattle.std.proofs.lemmas.Slice.Eq.{bytes_eq-Decides}
+use Rattle.lf_core.specs.Term.{Path, Universe, level_zero, level_succ, level_max, level_imax, level_param, level_meta, Term, bound, free, meta, sort, const, app, lam, pi, letin, lit}
+use Rattle.lf_core.specs.Level.{value_of, Same, AllSame}
+use Rattle.lf_core.specs.Same.{same_path, same_universe, same_universes, same_kind, same_binder, same}
+use Rattle.lf_core.specs.declared.binder.Binder.{Binder}
+use Rattle.lf_core.specs.declared.binder.BinderKind.{BinderKind}
+use Rattle.lf_core.specs.declared.binder.BinderKind.TheVariants.{Explicit, Implicit}
+use Rattle.lf_level.specs.Parameters.{HasNoMetavariable, parameters_of}
+use Rattle.lf_level.proofs.Decided.{same_answer}
+use Rattle.lf_core.specs.Size.{level_depth}
+use Rattle.lf_checker_laws.specs.Levels.{LevelTestIsExact}
+use Rattle.lf_env.specs.LevelTest.{has_metavariable, both_orders, is_too_great, is_same, are_same}
+
+pub no_false : {P : Type 0} → false ≡ true → P
+no_false e = absurd (true≢false (sym e))
+
+pub path_is : (a b : Path) → same_path a b ≡ true → a ≡ b
+path_is [] [] h = refl
+path_is (x ∷ xs) (y ∷ ys) h =
+    let p = and_parts (bytes_eq x y) (same_path xs ys) h in
+    ap₂ (λ z zs. z ∷ zs) ((bytes_eq-Decides x y).0 p.0) (path_is xs ys p.1)
+path_is _ _ h = no_false h
+
+pub universe_is : (a b : Universe) → same_universe a b ≡ true → a ≡ b
+universe_is level_zero level_zero h = refl
+universe_is (level_succ a) (level_succ b) h = ap level_succ (universe_is a b h)
+universe_is (level_max a c) (level_max b d) h = let p = and_parts (same_universe a b) (same_universe c d) h in ap₂ level_max (universe_is a b p.0) (universe_is c d p.1)
+universe_is (level_imax a c) (level_imax b d) h = let p = and_parts (same_universe a b) (same_universe c d) h in ap₂ level_imax (universe_is a b p.0) (universe_is c d p.1)
+universe_is (level_param a) (level_param b) h = ap level_param (eqb-true a b h)
+universe_is (level_meta a) (level_meta b) h = ap level_meta (eqb-true a b h)
+universe_is _ _ h = no_false h
+
+universes_are : (a b : List Universe) → same_universes a b ≡ true → a ≡ b
+universes_are [] [] h = refl
+universes_are (a ∷ c) (b ∷ d) h = let p = and_parts (same_universe a b) (same_universes c d) h in ap₂ (λ x xs. x ∷ xs) (universe_is a b p.0) (universes_are c d p.1)
+universes_are _ _ h = no_false h
+
+kind_is : (a b : BinderKind) → same_kind a b ≡ true → a ≡ b
+kind_is Explicit Explicit h = refl
+kind_is Implicit Implicit h = refl
+kind_is _ _ h = no_false h
+
+binder_is : (a b : Binder) → same_binder a b ≡ true → a ≡ b
+binder_is a b h =
+    let p = and_parts (same_path a.name b.name) (same_kind a.kind b.kind) h in
+    let n = path_is a.name b.name p.0 in
+    let k = kind_is a.kind b.kind p.1 in
+    λ i. record { name = n i; kind = k i }
+
+pub term_is : (a b : Term) → same a b ≡ true → a ≡ b
+term_is (bound a) (bound b) h = ap bound (eqb-true a b h)
+term_is (free a) (free b) h = ap free (eqb-true a b h)
+term_is (meta a) (meta b) h = ap meta (eqb-true a b h)
+term_is (sort a) (sort b) h = ap sort (universe_is a b h)
+term_is (const a c) (const b d) h = let p = and_parts (same_path a b) (same_universes c d) h in ap₂ const (path_is a b p.0) (universes_are c d p.1)
+term_is (app a c) (app b d) h = let p = and_parts (same a b) (same c d) h in ap₂ app (term_is a b p.0) (term_is c d p.1)
+term_is (lam x a c) (lam y b d) h =
+    let p = and_parts (same_binder x y && same a b) (same c d) h in
+    let q = and_parts (same_binder x y) (same a b) p.0 in
+    cc (binder_is x y q.0, term_is a b q.1, term_is c d p.1)
+term_is (pi x a c) (pi y b d) h =
+    let p = and_parts (same_binder x y && same a b) (same c d) h in
+    let q = and_parts (same_binder x y) (same a b) p.0 in
+    cc (binder_is x y q.0, term_is a b q.1, term_is c d p.1)
+term_is (letin x a c e) (letin y b d f) h =
+    let p = and_parts (same_binder x y && same a b && same c d) (same e f) h in
+    let q = and_parts (same_binder x y && same a b) (same c d) p.0 in
+    let r = and_parts (same_binder x y) (same a b) q.0 in
+    cc (binder_is x y r.0, term_is a b r.1, term_is c d q.1, term_is e f p.1)
+term_is (lit a) (lit b) h = ap lit (eqb-true a b h)
+term_is _ _ h = no_false h
+
+no_metavariable : (l : Universe) → has_metavariable l ≡ false → HasNoMetavariable l
+no_metavariable level_zero h = tt
+no_metavariable (level_succ l) h = no_metavariable l h
+no_metavariable (level_max l m) h = let p = or_parts (has_metavariable l) (has_metavariable m) h in (no_metavariable l p.0, no_metavariable m p.1)
+no_metavariable (level_imax l m) h = let p = or_parts (has_metavariable l) (has_metavariable m) h in (no_metavariable l p.0, no_metavariable m p.1)
+no_metavariable (level_param k) h = tt
+no_metavariable (level_meta k) h = absurd (true≢false h)
+
+tested : (l m : Universe) → has_metavariable l ≡ false → has_metavariable m ≡ false → is_too_great l m ≡ false → both_orders l m ≡ true → Same l m
+tested l m p q g h =
+    let a = or_parts (nat_lt 8 (length (parameters_of l m))) (nat_lt 1024 (level_depth l) || nat_lt 1024 (level_depth m)) g in
+    let b = or_parts (nat_lt 1024 (level_depth l)) (nat_lt 1024 (level_depth m)) a.1 in
+    (same_answer l m (parameters_of l m) (both_orders l m) refl (no_metavariable l p) (no_metavariable m q) (ltb-false 1024 (level_depth l) b.0) (ltb-false 1024 (level_depth m) b.1) refl).0 h
+
+-- Levels that the test says are the same are the same.
+pub level_same : (l m : Universe) → is_same l m ≡ true → Same l m
+unfolding is_same
+level_same l m =
+    cond_both (has_metavariable l || has_metavariable m) (same_universe l m) _ (λ b. b ≡ true → Same l m)
+    (λ e h s. ap (λ k. value_of s k) (universe_is l m h))
+    (λ e. cond_both (is_too_great l m) false (both_orders l m) (λ b. b ≡ true → Same l m) (λ g h. no_false h)
+    (λ g h. let p = or_parts (has_metavariable l) (has_metavariable m) e in tested l m p.0 p.1 g h))
+
+pub levels_same : (ls ms : List Universe) → are_same ls ms ≡ true → AllSame ls ms
+levels_same [] [] h = tt
+levels_same (l ∷ ls) (m ∷ ms) h = let p = and_parts (is_same l m) (are_same ls ms) h in (level_same l m p.0, levels_same ls ms p.1)
+levels_same [] (m ∷ ms) h = no_false h
+levels_same (l ∷ ls) [] h = no_false h
+
+-- And the test passes where they are, within its limits.
+
+found_none : (l : Universe) → HasNoMetavariable l → has_metavariable l ≡ false
+found_none level_zero h = refl
+found_none (level_succ l) h = found_none l h
+found_none (level_max l m) h = or_from (has_metavariable l) (has_metavariable m) (found_none l h.0) (found_none m h.1)
+found_none (level_imax l m) h = or_from (has_metavariable l) (has_metavariable m) (found_none l h.0) (found_none m h.1)
+found_none (level_param k) h = refl
+found_none (level_meta k) h = absurd h
+
+not_above : (a b : ℕ) → b ≤ a → nat_lt a b ≡ false
+not_above a b h = false_from_ne_true (nat_lt a b) (λ e. let l = ltb-true a b e in omega arith)
+
+within : (l m : Universe) → level_depth l ≤ 1024 → level_depth m ≤ 1024 → length (parameters_of l m) ≤ 8 → is_too_great l m ≡ false
+within l m d d' n =
+    or_from (nat_lt 8 (length (parameters_of l m))) (nat_lt 1024 (level_depth l) || nat_lt 1024 (level_depth m)) (not_above 8 (length (parameters_of l m)) n)
+    (or_from (nat_lt 1024 (level_depth l)) (nat_lt 1024 (level_depth m)) (not_above 1024 (level_depth l) d) (not_above 1024 (level_depth m) d'))
+
+test_is : (l m : Universe) → HasNoMetavariable l → HasNoMetavariable m → level_depth l ≤ 1024 → level_depth m ≤ 1024 → length (parameters_of l m) ≤ 8 → is_same l m ≡ both_orders l m
+unfolding is_same
+test_is l m o o' d d' n =
+    cond-false (has_metavariable l || has_metavariable m) (same_universe l m) _ (or_from (has_metavariable l) (has_metavariable m) (found_none l o) (found_none m o'))
+    ∙ cond-false (is_too_great l m) false (both_orders l m) (within l m d d' n)
+
+level_exact : (l m : Universe) → HasNoMetavariable l → HasNoMetavariable m → level_depth l ≤ 1024 → level_depth m ≤ 1024 → length (parameters_of l m) ≤ 8 → (is_same l m ≡ true) ↔ Same l m
+level_exact l m o o' d d' n = same_answer l m (parameters_of l m) (is_same l m) refl o o' d d' (test_is l m o o' d d' n)
+
+pub level_test_is_exact : LevelTestIsExact
+level_test_is_exact = record { sound = level_same; exact = level_exact }

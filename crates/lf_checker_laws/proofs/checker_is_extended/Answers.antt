@@ -1,5 +1,0 @@
-use Rattle.lf_checker_laws.proofs.Extended_declarations.{extension_law}
-use Rattle.lf_checker_laws.proofs.checker_is_extended.Goals as goal
-
-pub returns : goal.returns
-returns c = extension_law

@@ -1,0 +1,39 @@
+-- What is accepted over a derived environment keeps it derived.
+use Rattle.std.specs.Prelude.{◌≡◌, ◌⊎◌, ℕ, Some, [], ◌∷◌, ◌++◌, length, Contains}
+use Rattle.lf_core.specs.Term.{Path, Term, sort}
+use Rattle.lf_core.specs.Environment.{Environment, Fresh, NamesDeclared, LevelsBelow}
+use Rattle.lf_core.specs.Judgment.{HasType}
+use Rattle.lf_core.specs.Derived.{Stated, Derived}
+use Rattle.lf_core.specs.declared.constant.ConstInfo.{ConstInfo}
+use Rattle.lf_core.specs.declared.constant.ConstKind.TheVariants.{Def, Theorem}
+use Rattle.lf_env.specs.View.{View, Entry, find_entry, found, lookup_of}
+use Rattle.lf_env.specs.Checker.{add_header, add_decl}
+use Rattle.lf_checker_laws.specs.Soundness.{HeldBeside, Names, ClosedList, Post}
+
+-- The view finds each constant of the list, and what it finds has the name that was asked for.
+pub record Knows (V : View) (E : Environment) : Type 0 where
+  pub found_there : (c : ConstInfo) → Contains E c → lookup_of V c.name ≡ found c
+  pub own_name : (n : Path) (c : ConstInfo) → lookup_of V n ≡ found c → c.name ≡ n
+
+-- With a constant the list has what counts as named beside it.
+abbrev pub HasBeside : View → Environment → Type 0
+HasBeside V E = (c : ConstInfo) → Contains E c → HeldBeside V E c.name
+
+-- A derived list that the view knows is one over which the checker is sound.
+abbrev pub DerivedIsClosedList : Type 0
+DerivedIsClosedList = (V : View) (E : Environment) → Derived E → Knows V E → HasBeside V E → ClosedList V E
+
+abbrev pub AllEntries : View → Environment → Type 0
+AllEntries V E = (c : ConstInfo) → Contains E c → (e : Entry) × (find_entry V.entries c.name ≡ Some e)
+
+pub record Accepts (V : View) (E : Environment) (depth : ℕ) : Type 0 where
+  -- the level that is given is that of a sort of the type
+  pub header : (n : Path) (ty : Term) (u : ℕ) → Names V E ty → Post (λ l. HasType E [] ty (sort l)) (add_header V depth n ty u)
+  -- a definition or theorem whose value is accepted may be added to the list
+  pub value : (c : ConstInfo) (v : Term) (u : ℕ) → Stated E c → (c.kind ≡ Def) ⊎ (c.kind ≡ Theorem) → c.value ≡ Some v → NamesDeclared E v → LevelsBelow (length c.levels) v → Post (λ h. Derived (E ++ c ∷ [])) (add_decl V depth c u)
+  -- the name of what is accepted is new
+  pub new_header : (n : Path) (ty : Term) (u : ℕ) → AllEntries V E → Post (λ l. Fresh E n) (add_header V depth n ty u)
+  pub new_value : (c : ConstInfo) (u : ℕ) → AllEntries V E → Post (λ h. Fresh E c.name) (add_decl V depth c u)
+
+abbrev pub AcceptedIsDerived : Type 0
+AcceptedIsDerived = (V : View) (E : Environment) → Derived E → Knows V E → ClosedList V E → (depth : ℕ) → Accepts V E depth

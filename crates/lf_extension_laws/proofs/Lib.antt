@@ -1,0 +1,4 @@
+pub mod Kept
+pub mod Extended
+pub mod Extended_declarations
+pub mod Calm
