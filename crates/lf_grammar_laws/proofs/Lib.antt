@@ -1,0 +1,5 @@
+pub mod Predict
+pub mod Viable
+pub mod Kept
+pub mod Closing
+pub mod Grammar

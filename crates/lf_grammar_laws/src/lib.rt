@@ -1,0 +1,6 @@
+//! Laws of the grammar.
+#![tactic(auto)]
+
+pub fn law(x: u8) -> u8 {
+    x
+}

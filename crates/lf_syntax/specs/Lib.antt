@@ -1,0 +1,9 @@
+pub mod Predictive
+pub mod Tree
+pub mod Piece
+pub mod Levels
+pub mod Symbol
+pub mod Row
+pub mod Build
+pub mod Rows
+pub mod Grammar
