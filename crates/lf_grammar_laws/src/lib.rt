@@ -1,6 +1,40 @@
-//! Laws of the grammar.
+//! Laws of the grammar of commands: each public function's contract is one of them, and it does nothing.
 #![tactic(auto)]
 
-pub fn law(x: u8) -> u8 {
-    x
+ghost use Rattle.lf_grammar_laws.specs.Laws.{OneAnswer, MachineAnswers, Complete, Sound, Completable, StuckIsLocal};
+
+/// A list of tokens is a command with one tree, or bad at one place, or a beginning that ends early: exactly one of these.
+pub fn one_answer()
+    ensures { OneAnswer }
+{
+}
+
+/// The predictive machine gives this answer, and no other.
+pub fn machine_answers()
+    ensures { MachineAnswers }
+{
+}
+
+/// What derives from the grammar, the machine reads.
+pub fn complete()
+    ensures { Complete }
+{
+}
+
+/// What the machine reads derives from the grammar.
+pub fn sound()
+    ensures { Sound }
+{
+}
+
+/// Tokens that don't stop the machine begin a command.
+pub fn completable()
+    ensures { Completable }
+{
+}
+
+/// The machine stops at the first token that doesn't belong.
+pub fn stuck_is_local()
+    ensures { StuckIsLocal }
+{
 }

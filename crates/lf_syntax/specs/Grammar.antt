@@ -26,3 +26,14 @@ BadAt ts last = predictive.BadAt grammar command ts last
 -- All tokens begin a command and are none.
 abbrev pub EndsEarly : List Piece → Type 0
 EndsEarly ts = predictive.EndsEarly grammar command ts
+
+-- What the tokens of a command are: a command; or none, with the tokens from the first one on that doesn't belong; or a beginning.
+pub data Answer : Type 0 where
+  is_command : Command → Answer
+  is_bad : List Piece → Answer
+  is_short : Answer
+
+abbrev pub IsAnswer : List Piece → Answer → Type 0
+IsAnswer ts (is_command c) = Derives ts c
+IsAnswer ts (is_bad last) = BadAt ts last
+IsAnswer ts is_short = EndsEarly ts

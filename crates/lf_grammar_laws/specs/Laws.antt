@@ -1,0 +1,38 @@
+-- The laws of the grammar.
+use Rattle.std.specs.Prelude.{◌≡◌, ◌↔◌, List, [], ◌∷◌}
+use Rattle.lf_syntax.specs.Piece.{Piece}
+use Rattle.lf_syntax.specs.Symbol.{command}
+use Rattle.lf_syntax.specs.Tree.{Command}
+use Rattle.lf_syntax.specs.Grammar.{grammar, Derives, Begins, BadAt, EndsEarly, Answer, IsAnswer, is_command, is_bad, is_short}
+use Rattle.lf_grammar_laws.specs.Machine.{Outcome, Done, Stuck, Short, run}
+
+-- Where the machine ends that begins with the symbol of commands alone.
+abbrev pub outcome : List Piece → Outcome Piece Command
+outcome ts = run grammar ts (command ∷ []) (λ c. c)
+
+abbrev pub answer_of : Outcome Piece Command → Answer
+answer_of (Done c) = is_command c
+answer_of (Stuck last) = is_bad last
+answer_of Short = is_short
+
+-- A list of tokens has exactly one answer.
+abbrev pub OneAnswer : Type 0
+OneAnswer = (ts : List Piece) → (a : Answer) × IsAnswer ts a × ((b : Answer) → IsAnswer ts b → b ≡ a)
+
+-- The machine gives it.
+abbrev pub MachineAnswers : Type 0
+MachineAnswers = (ts : List Piece) (a : Answer) → IsAnswer ts a ↔ (answer_of (outcome ts) ≡ a)
+
+abbrev pub Complete : Type 0
+Complete = (ts : List Piece) (c : Command) → Derives ts c → outcome ts ≡ Done c
+
+abbrev pub Sound : Type 0
+Sound = (ts : List Piece) (c : Command) → outcome ts ≡ Done c → Derives ts c
+
+-- What doesn't stop the machine begins a command.
+abbrev pub Completable : Type 0
+Completable = (ts : List Piece) → ((last : List Piece) → outcome ts ≡ Stuck last → ⊥) → Begins ts
+
+-- The machine stops at the first token that doesn't belong.
+abbrev pub StuckIsLocal : Type 0
+StuckIsLocal = (ts last : List Piece) → outcome ts ≡ Stuck last → BadAt ts last
