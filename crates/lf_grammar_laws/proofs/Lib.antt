@@ -3,3 +3,4 @@ pub mod Viable
 pub mod Kept
 pub mod Closing
 pub mod Grammar
+pub mod Texts

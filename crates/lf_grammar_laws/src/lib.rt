@@ -2,6 +2,7 @@
 #![tactic(auto)]
 
 ghost use Rattle.lf_grammar_laws.specs.Laws.{OneAnswer, MachineAnswers, Complete, Sound, Completable, StuckIsLocal};
+ghost use Rattle.lf_grammar_laws.specs.Worked.{Worked};
 
 /// A list of tokens is a command with one tree, or bad at one place, or a beginning that ends early: exactly one of these.
 pub fn one_answer()
@@ -36,5 +37,11 @@ pub fn completable()
 /// The machine stops at the first token that doesn't belong.
 pub fn stuck_is_local()
     ensures { StuckIsLocal }
+{
+}
+
+/// The worked texts have the answers that are written beside them.
+pub fn worked()
+    ensures { Worked }
 {
 }
