@@ -7,3 +7,7 @@ pub mod Row
 pub mod Build
 pub mod Rows
 pub mod Grammar
+pub mod Codes
+pub mod Size
+pub mod Node
+pub mod Falls

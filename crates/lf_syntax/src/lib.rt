@@ -2,5 +2,7 @@
 #![tactic(auto)]
 
 mod leaf;
+mod level;
 
 pub use leaf::{Ident, Num, Op, SyntaxFault};
+pub use level::{LevelNode, LevelTerm};
