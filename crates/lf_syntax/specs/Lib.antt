@@ -11,3 +11,5 @@ pub mod Codes
 pub mod Size
 pub mod Node
 pub mod Falls
+pub mod TermNode
+pub mod TermFalls

@@ -3,6 +3,8 @@
 
 mod leaf;
 mod level;
+mod term;
 
 pub use leaf::{Ident, Num, Op, SyntaxFault};
 pub use level::{LevelNode, LevelTerm};
+pub use term::{Binders, Item, ItemNode, LBinder, Rule, Term, TermNode};
