@@ -1,6 +1,7 @@
 -- Each part of a tree has fewer nodes.
 use Rattle.std.specs.Prelude.{ℕ, ◌+◌, ◌≤◌, List, [], ◌∷◌, max}
 use Rattle.std.proofs.Common.{arith}
+use Rattle.std.specs.Arc.{arc_value}
 use denote.Param.Weighed.{most}
 use Rattle.lf_syntax.specs.Tree.{LevelTree, levels_of}
 use Rattle.lf_syntax.specs.Size.{level_size, levels_size}
@@ -21,5 +22,5 @@ node_falls (level.Plus at l n) = omega arith
 node_falls (level.Max at parts) = omega (arith, most_levels parts.items)
 node_falls (level.Imax at k l) = omega arith
 
-pub level_falls : (a : Inside) → deep-LevelTerm a ≤ level_size (level_tree a.node.value)
-level_falls a = omega (arith, node_falls a.node.value)
+pub level_falls : (a : Inside) → deep-LevelTerm a ≤ level_size (level_tree (arc_value a.node))
+level_falls a = omega (arith, node_falls (arc_value a.node))

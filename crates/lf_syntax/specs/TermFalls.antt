@@ -1,6 +1,7 @@
 -- Each part of a term or an item has fewer nodes.
 use Rattle.std.specs.Prelude.{ℕ, ◌+◌, ◌≤◌, List, [], ◌∷◌, max, Option, Some, None}
 use Rattle.std.proofs.Common.{arith}
+use Rattle.std.specs.Arc.{arc_value}
 use denote.Param.Weighed.{most}
 use Rattle.lf_syntax.specs.Tree.{TermTree, ItemTree, terms_of, items_of, option_of}
 use Rattle.lf_syntax.specs.Size.{term_size, terms_size, term_option_size, item_size, items_size, lbinder_size, lbinders_size, binders_size, rules_size, rule_size}
@@ -79,8 +80,8 @@ item_node_falls (item.Cases at x) = omega arith
 item_node_falls (item.Injection at x) = omega arith
 item_node_falls (item.Sorry at) = omega arith
 
-pub term_falls : (t : term_inside.Inside) → deep-Term t ≤ term_size (term_tree t.node.value)
-term_falls t = omega (arith, term_node_falls t.node.value)
+pub term_falls : (t : term_inside.Inside) → deep-Term t ≤ term_size (term_tree (arc_value t.node))
+term_falls t = omega (arith, term_node_falls (arc_value t.node))
 
-pub item_falls : (i : item_inside.Inside) → deep-Item i ≤ item_size (item_tree i.node.value)
-item_falls i = omega (arith, item_node_falls i.node.value)
+pub item_falls : (i : item_inside.Inside) → deep-Item i ≤ item_size (item_tree (arc_value i.node))
+item_falls i = omega (arith, item_node_falls (arc_value i.node))

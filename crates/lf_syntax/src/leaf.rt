@@ -1,4 +1,8 @@
-use lf_core::Name;
+ghost use Rattle.std.specs.Prelude.{◌≡◌, IfOk};
+
+use lf_core::{Name, NoMemory};
+use sqlite_items::Items;
+use std::alloc::Global;
 
 /// An identifier as it is written.
 #[derive(Debug, Drop)]
@@ -49,4 +53,26 @@ pub enum SyntaxFault {
     Wide,
     /// More than 256 levels of nesting.
     Deep,
+}
+
+impl Ident {
+    pub fn copy(&self, alloc: Global) -> Result<Ident, NoMemory>
+        ensures { IfOk result (λ x. x ≡ self.now) }
+    {
+        Ok(Ident {
+            at: self.at,
+            name: self.name.copy(alloc)?,
+        })
+    }
+}
+
+/// A list of identifiers equal to `idents`.
+pub fn copy_idents(alloc: Global, idents: &[Ident]) -> Result<Items<Ident>, NoMemory>
+    ensures { IfOk result (λ all. all ≡ idents.now) }
+{
+    let mut all = Items::new(alloc);
+    for ident in idents {
+        all.push(ident.copy(alloc)?)?;
+    }
+    Ok(all)
 }

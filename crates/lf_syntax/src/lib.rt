@@ -1,10 +1,12 @@
 //! The trees of the language, and the definition of its grammar.
 #![tactic(auto)]
 
+mod command;
 mod leaf;
 mod level;
 mod term;
 
-pub use leaf::{Ident, Num, Op, SyntaxFault};
+pub use command::{Command, CtorDecl, Decl, Helper};
+pub use leaf::{Ident, Num, Op, SyntaxFault, copy_idents};
 pub use level::{LevelNode, LevelTerm};
-pub use term::{Binders, Item, ItemNode, LBinder, Rule, Term, TermNode};
+pub use term::{Binders, Item, ItemNode, LBinder, Rule, Term, TermNode, copy_binders};

@@ -1,14 +1,19 @@
-use crate::leaf::{Ident, Num, Op};
+ghost use Rattle.std.specs.Prelude.{◌≡◌, IfOk};
+ghost use Rattle.lf_syntax.specs.TermNode.{term_tree, item_tree};
+
+use crate::leaf::{Ident, Num, Op, copy_idents};
 use crate::level::LevelTerm;
-use lf_core::BinderKind;
+use lf_core::{BinderKind, NoMemory};
 use sqlite_items::Items;
+use std::alloc::Global;
 use std::marker::Model;
+use std::sync::Arc;
 
 /// A term as it is written. Contracts see the plain tree `TermTree`.
 #[cycle(term)]
 #[derive(Debug, Drop)]
 pub struct Term {
-    node: Box<TermNode>,
+    node: Arc<TermNode>,
 }
 
 /// The forms of terms. `at` is the place of the form's first token, in bytes.
@@ -113,7 +118,7 @@ pub enum LBinder {
 #[cycle(term)]
 #[derive(Debug, Drop)]
 pub struct Item {
-    node: Box<ItemNode>,
+    node: Arc<ItemNode>,
 }
 
 /// The forms of proof items. `at` is the place of the item's first token, in bytes.
@@ -192,8 +197,9 @@ impl Model for Term {
 
     ghost use Rattle.lf_syntax.specs.Size.{term_size};
     ghost use Rattle.lf_syntax.specs.TermNode.{term_tree};
+    ghost use Rattle.std.specs.Arc.{arc_value};
 
-    ghost view = { λ t. term_tree t.node.value };
+    ghost view = { λ t. term_tree (arc_value t.node) };
 
     ghost size = { term_size };
     ghost use Rattle.lf_syntax.specs.TermFalls.{term_falls};
@@ -211,11 +217,90 @@ impl Model for Item {
 
     ghost use Rattle.lf_syntax.specs.Size.{item_size};
     ghost use Rattle.lf_syntax.specs.TermNode.{item_tree};
+    ghost use Rattle.std.specs.Arc.{arc_value};
 
-    ghost view = { λ i. item_tree i.node.value };
+    ghost view = { λ i. item_tree (arc_value i.node) };
 
     ghost size = { item_size };
     ghost use Rattle.lf_syntax.specs.TermFalls.{item_falls};
 
     ghost size_decreases = { λ i h. item_falls i };
+}
+
+impl Term {
+    /// The term of this form.
+    pub fn of(alloc: Global, node: TermNode) -> Result<Term, NoMemory>
+        ensures { IfOk result (λ t. t ≡ term_tree node) }
+    {
+        Ok(Term {
+            node: Arc::new(alloc, node)?,
+        })
+    }
+
+    /// The form of the term, with its parts.
+    pub fn node(&self) -> &TermNode
+        ensures { term_tree result.now ≡ self.now }
+    {
+        &self.node
+    }
+
+    /// The same term; copies share their nodes.
+    pub fn copy(&self, _alloc: Global) -> Result<Term, NoMemory>
+        ensures { IfOk result (λ t. t ≡ self.now) }
+    {
+        Ok(Term {
+            node: Arc::try_clone(&self.node)?,
+        })
+    }
+}
+
+impl Item {
+    /// The item of this form.
+    pub fn of(alloc: Global, node: ItemNode) -> Result<Item, NoMemory>
+        ensures { IfOk result (λ i. i ≡ item_tree node) }
+    {
+        Ok(Item {
+            node: Arc::new(alloc, node)?,
+        })
+    }
+
+    /// The form of the item, with its parts.
+    pub fn node(&self) -> &ItemNode
+        ensures { item_tree result.now ≡ self.now }
+    {
+        &self.node
+    }
+
+    /// The same item; copies share their nodes.
+    pub fn copy(&self, _alloc: Global) -> Result<Item, NoMemory>
+        ensures { IfOk result (λ i. i ≡ self.now) }
+    {
+        Ok(Item {
+            node: Arc::try_clone(&self.node)?,
+        })
+    }
+}
+
+impl Binders {
+    pub fn copy(&self, alloc: Global) -> Result<Binders, NoMemory>
+        ensures { IfOk result (λ b. b ≡ self.now) }
+    {
+        Ok(Binders {
+            at: self.at,
+            kind: self.kind,
+            names: copy_idents(alloc, self.names.as_slice())?,
+            ty: self.ty.copy(alloc)?,
+        })
+    }
+}
+
+/// A list of binders equal to `binders`.
+pub fn copy_binders(alloc: Global, binders: &[Binders]) -> Result<Items<Binders>, NoMemory>
+    ensures { IfOk result (λ all. all ≡ binders.now) }
+{
+    let mut all = Items::new(alloc);
+    for one in binders {
+        all.push(one.copy(alloc)?)?;
+    }
+    Ok(all)
 }
