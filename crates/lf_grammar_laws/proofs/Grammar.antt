@@ -4,7 +4,7 @@ use Rattle.lf_syntax.specs.Predictive as predictive
 use Rattle.lf_syntax.specs.Predictive.{Grammar, Reads}
 use Rattle.lf_syntax.specs.Piece.{Piece}
 use Rattle.lf_syntax.specs.Symbol.{Symbol, Tree, command}
-use Rattle.lf_syntax.specs.Tree.{Command}
+use Rattle.lf_syntax.specs.declared.command.Command.{Command}
 use Rattle.lf_syntax.specs.Row.{Prod}
 use Rattle.lf_syntax.specs.Grammar.{grammar, Derives, Begins, BadAt, EndsEarly, Answer, IsAnswer, is_command, is_bad, is_short}
 use Rattle.lf_grammar_laws.specs.Machine.{Outcome, Done, Stuck, Short}

@@ -5,7 +5,12 @@ use Rattle.lf_syntax.specs.declared.leaf.Ident.{Ident}
 use Rattle.lf_syntax.specs.declared.leaf.Num.{Num}
 use Rattle.lf_syntax.specs.declared.leaf.Op.TheVariants.{Iff, Arrow, Or, And, Eq, Ne, Add, Sub, Mul, Div, Mod}
 use Rattle.lf_syntax.specs.declared.leaf.SyntaxFault.TheVariants.{Wide, Char}
-use Rattle.lf_syntax.specs.Tree.{LevelTree, level_name, level_plus, level_max, levels_of, TermTree, ident, numeral, type_u, paren, no_term, some_term, app, oper, not_term, fun_term, forall_term, by_term, arrow, BindersTree, binders, plain, implicit, terms_of, binders_of, items_of, rules_of, block, exact, intro, apply, rfl, assumption_item, rw_item, unfold_item, have_item, induction, cases, injection, sorry_item, rule, Decl, Helper, CtorDecl, Def, Inductive, Check}
+use Rattle.lf_syntax.specs.Tree.{LevelTree, level_name, level_plus, level_max, levels_of, TermTree, ident, numeral, type_u, paren, no_term, some_term, app, oper, not_term, fun_term, forall_term, by_term, arrow, binders, plain, implicit, terms_of, binders_of, items_of, rules_of, block, exact, intro, apply, rfl, assumption_item, rw_item, unfold_item, have_item, induction, cases, injection, sorry_item, rule}
+use Rattle.lf_syntax.specs.declared.term.Binders.{Binders}
+use Rattle.lf_syntax.specs.declared.command.Decl.{Decl}
+use Rattle.lf_syntax.specs.declared.command.Helper.{Helper}
+use Rattle.lf_syntax.specs.declared.command.CtorDecl.{CtorDecl}
+use Rattle.lf_syntax.specs.declared.command.Command.TheVariants.{Def, Inductive, Check}
 use Rattle.lf_syntax.specs.Piece as piece
 use Rattle.lf_syntax.specs.Piece.{Class, word, name, number, operator, wrong, Piece, apply_name, assign, assumption_name, axiom_word, back_arrow, bar, by_word, cases_name, check_word, colon, comma, def_word, dot, exact_name, fat_arrow, forall_word, fun_word, have_name, induction_name, inductive_word, injection_name, intro_name, layout_close, layout_open, layout_sep, left_brace, left_bracket, left_out_word, left_paren, level_brace, max_name, not_sign, plain_name, prop_word, rfl_name, right_brace, right_bracket, right_paren, rw_name, several, sorry_word, type_word, underscore, unfold_name, where_word}
 use Rattle.lf_syntax.specs.Grammar.{Answer, IsAnswer, is_command, is_bad, is_short}
@@ -36,13 +41,16 @@ num at n = record { at = at; value = n }
 abbrev v : ℕ → List ℕ → TermTree
 v at w = ident at false (id at w) []
 
-abbrev decl : ℕ → Ident → List Ident → List BindersTree → Option TermTree → Decl
+abbrev group : ℕ → List Ident → TermTree → Binders
+group at xs ty = record { at = at; kind = Explicit; names = xs; ty = ty }
+
+abbrev decl : ℕ → Ident → List Ident → List Binders → Option TermTree → Decl
 decl at x ls bs ty = record { at = at; name = x; levels = ls; binders = bs; ty = ty }
 
-abbrev helper : ℕ → Ident → List BindersTree → TermTree → TermTree → Helper
+abbrev helper : ℕ → Ident → List Binders → TermTree → TermTree → Helper
 helper at x bs ty t = record { at = at; name = x; binders = bs; ty = ty; value = t }
 
-abbrev ctor : ℕ → Ident → List BindersTree → Option TermTree → CtorDecl
+abbrev ctor : ℕ → Ident → List Binders → Option TermTree → CtorDecl
 ctor at x bs ty = record { at = at; name = x; binders = bs; ty = ty }
 
 -- `def := 3`
@@ -163,7 +171,7 @@ constructors = text (token (word inductive_word) 0 9 ∷ token (name plain_name 
 -- `def f : N := a where a : N := b ; b (x : N) : N := x`
 abbrev pub helpers_with_and_without_binders : Text
 helpers_with_and_without_binders = text (token (word def_word) 0 3 ∷ token (name plain_name (codes "f" ∷ [])) 4 5 ∷ token (word colon) 6 7 ∷ token (name plain_name (codes "N" ∷ [])) 8 9 ∷ token (word assign) 10 12 ∷ token (name plain_name (codes "a" ∷ [])) 13 14 ∷ token (word where_word) 15 20 ∷ token (word layout_open) 21 21 ∷ token (name plain_name (codes "a" ∷ [])) 21 22 ∷ token (word colon) 23 24 ∷ token (name plain_name (codes "N" ∷ [])) 25 26 ∷ token (word assign) 27 29 ∷ token (name plain_name (codes "b" ∷ [])) 30 31 ∷ token (word layout_sep) 32 32 ∷ token (name plain_name (codes "b" ∷ [])) 32 33 ∷ token (word left_paren) 34 35 ∷ token (name plain_name (codes "x" ∷ [])) 35 36 ∷ token (word colon) 37 38 ∷ token (name plain_name (codes "N" ∷ [])) 39 40 ∷ token (word right_paren) 40 41 ∷ token (word colon) 42 43 ∷ token (name plain_name (codes "N" ∷ [])) 44 45 ∷ token (word assign) 46 48 ∷ token (name plain_name (codes "x" ∷ [])) 49 50 ∷ token (word layout_close) 50 50 ∷ [])
-    (λ tokens. is_command (Def (decl 0 (id 4 (codes "f")) [] [] (Some (v 8 (codes "N")))) (v 13 (codes "a")) (helper 21 (id 21 (codes "a")) [] (v 25 (codes "N")) (v 30 (codes "b")) ∷ helper 32 (id 32 (codes "b")) (binders 34 Explicit (id 35 (codes "x") ∷ []) (v 39 (codes "N")) ∷ []) (v 44 (codes "N")) (v 49 (codes "x")) ∷ [])))
+    (λ tokens. is_command (Def (decl 0 (id 4 (codes "f")) [] [] (Some (v 8 (codes "N")))) (v 13 (codes "a")) (helper 21 (id 21 (codes "a")) [] (v 25 (codes "N")) (v 30 (codes "b")) ∷ helper 32 (id 32 (codes "b")) (group 34 (id 35 (codes "x") ∷ []) (v 39 (codes "N")) ∷ []) (v 44 (codes "N")) (v 49 (codes "x")) ∷ [])))
 
 -- `#check a → b ∨ c ∧ d → e`
 abbrev pub a_chain : Text

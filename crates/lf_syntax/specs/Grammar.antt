@@ -4,7 +4,7 @@ use Rattle.lf_syntax.specs.Predictive.{Grammar}
 use Rattle.lf_syntax.specs.Predictive as predictive
 use Rattle.lf_syntax.specs.Piece.{Piece}
 use Rattle.lf_syntax.specs.Symbol.{Symbol, Tree, command}
-use Rattle.lf_syntax.specs.Tree.{Command}
+use Rattle.lf_syntax.specs.declared.command.Command.{Command}
 use Rattle.lf_syntax.specs.Row.{first_row}
 use Rattle.lf_syntax.specs.Rows.{rows, without}
 

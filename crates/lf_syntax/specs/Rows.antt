@@ -6,7 +6,13 @@ use Rattle.lf_syntax.specs.declared.leaf.Ident.{Ident}
 use Rattle.lf_syntax.specs.declared.leaf.Num.{Num}
 use Rattle.lf_syntax.specs.declared.leaf.Op.{Op}
 use Rattle.lf_syntax.specs.declared.leaf.Op.TheVariants.{Add}
-use Rattle.lf_syntax.specs.Tree.{LevelTree, level_number, level_name, level_plus, level_max, level_imax, levels_of, TermTree, ident, numeral, hole, sorry_term, prop, type_u, sort_u, paren, not_term, fun_term, forall_term, let_term, by_term, arrow, option_of, binders_of, items_of, rules_of, place, BindersTree, binders, LBinderTree, typed, plain, implicit, ItemTree, block, exact, intro, apply, rfl, assumption_item, rw_item, unfold_item, have_item, induction, cases, injection, sorry_item, RuleTree, rule, Decl, Helper, CtorDecl, Command, Axiom, Def, Theorem, Inductive, Namespace, Section, End, OpenNames, Universe, Variable, Check, Reduce}
+use Rattle.lf_syntax.specs.Tree.{LevelTree, level_number, level_name, level_plus, level_max, level_imax, levels_of, TermTree, ident, numeral, hole, sorry_term, prop, type_u, sort_u, paren, not_term, fun_term, forall_term, let_term, by_term, arrow, option_of, binders_of, items_of, rules_of, place, BindersTree, binders, LBinderTree, typed, plain, implicit, ItemTree, block, exact, intro, apply, rfl, assumption_item, rw_item, unfold_item, have_item, induction, cases, injection, sorry_item, RuleTree, rule}
+use Rattle.lf_syntax.specs.declared.term.Binders.{Binders}
+use Rattle.lf_syntax.specs.declared.command.Decl.{Decl}
+use Rattle.lf_syntax.specs.declared.command.Helper.{Helper}
+use Rattle.lf_syntax.specs.declared.command.CtorDecl.{CtorDecl}
+use Rattle.lf_syntax.specs.declared.command.Command.{Command}
+use Rattle.lf_syntax.specs.declared.command.Command.TheVariants.{Axiom, Def, Theorem, Inductive, Namespace, Section, End, OpenNames, Universe, Variable, Check, Reduce}
 use Rattle.lf_syntax.specs.Piece as piece
 use Rattle.lf_syntax.specs.Piece.{Word}
 use Rattle.lf_syntax.specs.Levels.{op_level, right_of, takes, is_arrow, is_add, operand_level, not_level}
@@ -25,12 +31,15 @@ binder_name_rows = on_one_part (λ x. then [] x) ∷ on_word piece.underscore (�
 
 -- Binders.
 
-abbrev pub binder_rows : List (Row BindersTree)
+abbrev pub binders_at : ℕ → BinderKind → List Ident → TermTree → Binders
+binders_at at kind xs ty = record { at = at; kind = kind; names = xs; ty = ty }
+
+abbrev pub binder_rows : List (Row Binders)
 binder_rows =
     on_word piece.left_paren (λ at. then (binder_name ∷ binder_names ∷ token piece.colon ∷ term 0 ∷ token piece.right_paren ∷ [])
-        (λ x xs _ ty _. binders at Explicit (x ∷ xs) ty)) ∷
+        (λ x xs _ ty _. binders_at at Explicit (x ∷ xs) ty)) ∷
     on_word piece.left_brace (λ at. then (binder_name ∷ binder_names ∷ token piece.colon ∷ term 0 ∷ token piece.right_brace ∷ [])
-        (λ x xs _ ty _. binders at Implicit (x ∷ xs) ty)) ∷ []
+        (λ x xs _ ty _. binders_at at Implicit (x ∷ xs) ty)) ∷ []
 
 abbrev pub implicit_binder : ℕ → List Ident → Option TermTree → LBinderTree
 implicit_binder at xs (Some ty) = typed (binders at Implicit xs ty)
@@ -168,7 +177,7 @@ rw_rule_rows =
 
 -- Commands.
 
-abbrev pub decl_of : ℕ → Ident → List Ident → List BindersTree → Option TermTree → Decl
+abbrev pub decl_of : ℕ → Ident → List Ident → List Binders → Option TermTree → Decl
 decl_of at x ls bs ty = record { at = at; name = x; levels = ls; binders = bs; ty = ty }
 
 abbrev pub command_rows : List (Row Command)

@@ -3,7 +3,11 @@ use Rattle.std.specs.Prelude.{ℕ, List, Option}
 use Rattle.lf_syntax.specs.declared.leaf.Ident.{Ident}
 use Rattle.lf_syntax.specs.declared.leaf.Num.{Num}
 use Rattle.lf_syntax.specs.declared.leaf.Op.{Op}
-use Rattle.lf_syntax.specs.Tree.{LevelTree, TermTree, BindersTree, LBinderTree, ItemTree, RuleTree, Helper, CtorDecl, Command}
+use Rattle.lf_syntax.specs.Tree.{LevelTree, TermTree, LBinderTree, ItemTree, RuleTree}
+use Rattle.lf_syntax.specs.declared.term.Binders.{Binders}
+use Rattle.lf_syntax.specs.declared.command.Helper.{Helper}
+use Rattle.lf_syntax.specs.declared.command.CtorDecl.{CtorDecl}
+use Rattle.lf_syntax.specs.declared.command.Command.{Command}
 use Rattle.lf_syntax.specs.Piece.{Word}
 
 -- A head and its arguments.
@@ -70,8 +74,8 @@ Tree one_parts = List Ident
 Tree binder_names = List Ident
 Tree level_names = List Ident
 Tree more_level_names = List Ident
-Tree binder = BindersTree
-Tree parameters = List BindersTree
+Tree binder = Binders
+Tree parameters = List Binders
 Tree lambda_binder = LBinderTree
 Tree lambda_binders = List LBinderTree
 Tree implicit_end = Option TermTree

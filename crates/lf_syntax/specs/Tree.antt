@@ -128,37 +128,3 @@ place (forall_term at bs t) = at
 place (let_term at x u v t) = at
 place (by_term at i) = at
 place (arrow at b t) = at
-
-pub record Decl : Type 0 where
-  pub at : ℕ
-  pub name : Ident
-  pub levels : List Ident
-  pub binders : List BindersTree
-  pub ty : Option TermTree
-
-pub record Helper : Type 0 where
-  pub at : ℕ
-  pub name : Ident
-  pub binders : List BindersTree
-  pub ty : TermTree
-  pub value : TermTree
-
-pub record CtorDecl : Type 0 where
-  pub at : ℕ
-  pub name : Ident
-  pub binders : List BindersTree
-  pub ty : Option TermTree
-
-pub data Command : Type 0 where
-  Axiom : Decl → Command
-  Def : Decl → TermTree → List Helper → Command
-  Theorem : Decl → TermTree → List Helper → Command
-  Inductive : Decl → List CtorDecl → Command
-  Namespace : ℕ → Ident → Command
-  Section : ℕ → Option Ident → Command
-  End : ℕ → Option Ident → Command
-  OpenNames : ℕ → List Ident → Command
-  Universe : ℕ → List Ident → Command
-  Variable : ℕ → List BindersTree → Command
-  Check : ℕ → TermTree → Command
-  Reduce : ℕ → TermTree → Command
