@@ -163,11 +163,11 @@ pub line_from : (bytes : List ℕ) (at start : ℕ) → at ≤ length bytes → 
 line_from bytes at start w s none feed =
     let len : length (take at bytes) ≡ at = length-take-le at bytes w in
     let e : suffix_len (λ x. not (is_line_feed x)) (take at bytes) ≡ length (take at bytes) - start =
-      suffix_len_is (λ x. not (is_line_feed x)) (take at bytes) start 0 (omega arith)
-      (λ k l u. let v : k < at = omega arith in
-        feed_test (get_or (take at bytes) k 0) (λ h. none k l v (sym (get_or-take at bytes k 0 v) ∙ h)))
-      (λ p. let v : start - 1 < at = omega arith in
-        ap (λ (x : ℕ). not (is_line_feed x)) (get_or-take at bytes (start - 1) 0 v ∙ feed p)) in
+    suffix_len_is (λ x. not (is_line_feed x)) (take at bytes) start 0 (omega arith)
+    (λ k l u. let v : k < at = omega arith in
+    feed_test (get_or (take at bytes) k 0) (λ h. none k l v (sym (get_or-take at bytes k 0 v) ∙ h)))
+    (λ p. let v : start - 1 < at = omega arith in
+    ap (λ (x : ℕ). not (is_line_feed x)) (get_or-take at bytes (start - 1) 0 v ∙ feed p)) in
     ap (λ (n : ℕ). drop (length (take at bytes) - n) (take at bytes)) e
     ∙ ap (λ (n : ℕ). drop n (take at bytes)) (let a : length (take at bytes) - (length (take at bytes) - start) ≡ start = omega arith in a)
 
@@ -182,8 +182,8 @@ first_line bytes at w p = record {
   before = omega arith;
   feed = λ h. absurd (omega arith);
   line = line_from bytes at 0 w (omega arith)
-    (λ i l u h. let (j, m, e) = listed 0 bytes i (omega arith) h in let f : at < get_or (line_starts 0 bytes) j 0 = p.high j (omega arith) m in omega arith)
-    (λ h. absurd (omega arith));
+      (λ i l u h. let (j, m, e) = listed 0 bytes i (omega arith) h in let f : at < get_or (line_starts 0 bytes) j 0 = p.high j (omega arith) m in omega arith)
+      (λ h. absurd (omega arith));
 }
 
 pub later_line : (bytes : List ℕ) (at n : ℕ) → at ≤ length bytes → Parts (line_starts 0 bytes) at (suc n) →
@@ -192,17 +192,17 @@ later_line bytes at n w p =
     let b : Behind 0 bytes (get_or (line_starts 0 bytes) n 0) = behind 0 bytes n (omega (arith, p.within)) in
     let low : get_or (line_starts 0 bytes) n 0 ≤ at = p.low n (omega arith) in
     let feed : get_or bytes (get_or (line_starts 0 bytes) n 0 - 1) 0 ≡ 10 =
-      (let a : get_or (line_starts 0 bytes) n 0 - 0 - 1 ≡ get_or (line_starts 0 bytes) n 0 - 1 = omega arith in subst (λ (i : ℕ). get_or bytes i 0 ≡ 10) a b.feed) in
+    (let a : get_or (line_starts 0 bytes) n 0 - 0 - 1 ≡ get_or (line_starts 0 bytes) n 0 - 1 = omega arith in subst (λ (i : ℕ). get_or bytes i 0 ≡ 10) a b.feed) in
     record {
       before = low;
       feed = λ h. feed;
       line = line_from bytes at (get_or (line_starts 0 bytes) n 0) w low
-        (λ i l u h. let (j, m, e) = listed 0 bytes i (omega arith) h in
+          (λ i l u h. let (j, m, e) = listed 0 bytes i (omega arith) h in
           ⊎_elim
           (λ (early : j < suc n). let r : get_or (line_starts 0 bytes) j 0 ≤ get_or (line_starts 0 bytes) n 0 = rises (line_starts 0 bytes) (rising 0 bytes) j n (omega arith) (omega (arith, p.within)) in omega arith)
           (λ (late : suc n ≤ j). let f : at < get_or (line_starts 0 bytes) j 0 = p.high j late m in omega arith)
           (cases_lt j (suc n)))
-        (λ h. feed);
+          (λ h. feed);
     }
 
 boundary_of : (bytes : List ℕ) (start : ℕ) → IsUtf8 bytes → start ≤ length bytes → (0 < start → get_or bytes (start - 1) 0 ≡ 10) → IsCharBoundary bytes start
@@ -231,7 +231,7 @@ behind_feed bytes places at zero e w l p = absurd (omega arith)
 behind_feed bytes places at (suc n) e w l p =
     let q : Parts (line_starts 0 bytes) at (suc n) = subst (λ (xs : List ℕ). Parts xs at (suc n)) e p in
     let same : get_or (line_starts 0 bytes) n 0 ≡ get_or places (suc n - 1) 0 =
-      ap (λ (xs : List ℕ). get_or xs n 0) (sym e) ∙ ap (λ (i : ℕ). get_or places i 0) (let a : n ≡ suc n - 1 = omega arith in a) in
+    ap (λ (xs : List ℕ). get_or xs n 0) (sym e) ∙ ap (λ (i : ℕ). get_or places i 0) (let a : n ≡ suc n - 1 = omega arith in a) in
     record { feeds = count_of bytes at (suc n) q; line = subst (λ (s : ℕ). LineAt bytes at s) same (later_line bytes at n w q) }
 
 -- the part of a line up to a place
