@@ -1,10 +1,11 @@
-use Rattle.std.specs.Prelude.{ℕ, ◌+◌, List, [], ◌∷◌, ◌++◌, take, drop, Bool, true, false, not, ◌||◌, ◌&&◌, ◌==◌, nat_lt, if◌then◌else◌, bytes_eq, replicate}
+use Rattle.std.specs.Prelude.{ℕ, ◌+◌, List, [], ◌∷◌, ◌++◌, take, drop, Bool, true, false, not, ◌||◌, ◌&&◌, ◌==◌, nat_lt, if◌then◌else◌, bytes_eq, replicate, count_by}
+use Rattle.std.specs.List.{prefix_len}
 use Rattle.lf_text.specs.declared.frame.Frame.{Frame}
 use Rattle.lf_text.specs.declared.frame.Frame.TheVariants.{Block, Bracket}
 use Rattle.lf_text.specs.declared.token.Token.{Token}
 use Rattle.lf_text.specs.declared.token.TokenKind.{TokenKind}
 use Rattle.lf_text.specs.declared.token.TokenKind.TheVariants.{Open, Sep, Close}
-use Rattle.lf_text.specs.Words.{utf8, is_among, begins_command, opening_brackets, closing_brackets}
+use Rattle.lf_text.specs.Words.{utf8, is_among, begins_command, block_openers, opening_brackets, closing_brackets}
 use Rattle.lf_text.specs.Place.{line_of, column_of}
 
 -- the bytes of a token
@@ -22,39 +23,43 @@ is_first bytes previous t = nat_lt (line_of bytes previous.at) (line_of bytes t.
 -- a block opens between two tokens: after `by`, `·`, and a `where` whose next token isn't `|`
 abbrev pub opens_block : List ℕ → List ℕ → Bool
 opens_block previous text =
-    is_among (utf8 "by" ∷ utf8 "·" ∷ []) previous || (bytes_eq (utf8 "where") previous && not (bytes_eq (utf8 "|") text))
+    is_among block_openers previous || (bytes_eq (utf8 "where") previous && not (bytes_eq (utf8 "|") text))
 
 -- What is open is listed from the innermost on.
 
--- how many blocks are open
+abbrev pub is_block : Frame → Bool
+is_block (Block column) = true
+is_block Bracket = false
+
+abbrev pub is_bracket : Frame → Bool
+is_bracket (Block column) = false
+is_bracket Bracket = true
+
+-- a block of a greater column
+abbrev pub is_deeper : ℕ → Frame → Bool
+is_deeper column (Block c) = nat_lt column c
+is_deeper column Bracket = false
+
+-- how many blocks are open, how many of them above the innermost open bracket, and how many, from
+-- the innermost on, have a greater column
 abbrev pub blocks : List Frame → ℕ
-blocks [] = 0
-blocks (Block column ∷ frames) = 1 + blocks frames
-blocks (Bracket ∷ frames) = blocks frames
+blocks frames = count_by is_block frames
 
--- how many blocks stand above the innermost open bracket
 abbrev pub blocks_above : List Frame → ℕ
-blocks_above [] = 0
-blocks_above (Block column ∷ frames) = 1 + blocks_above frames
-blocks_above (Bracket ∷ frames) = 0
+blocks_above frames = prefix_len is_block frames
 
--- how many blocks, from the innermost on, have a greater column
 abbrev pub deeper_blocks : ℕ → List Frame → ℕ
-deeper_blocks column [] = 0
-deeper_blocks column (Block c ∷ frames) = if nat_lt column c then 1 + deeper_blocks column frames else 0
-deeper_blocks column (Bracket ∷ frames) = 0
+deeper_blocks column frames = prefix_len (is_deeper column) frames
+
+-- a bracket is open
+abbrev pub has_bracket : List Frame → Bool
+has_bracket frames = nat_lt 0 (count_by is_bracket frames)
 
 -- the innermost thing open is a block of this column
 abbrev pub is_block_at : ℕ → List Frame → Bool
 is_block_at column [] = false
 is_block_at column (Block c ∷ frames) = c == column
 is_block_at column (Bracket ∷ frames) = false
-
--- a bracket is open
-abbrev pub has_bracket : List Frame → Bool
-has_bracket [] = false
-has_bracket (Block column ∷ frames) = has_bracket frames
-has_bracket (Bracket ∷ frames) = true
 
 -- layout tokens, and what is open after them
 pub record Put : Type 0 where

@@ -1,4 +1,4 @@
-use Rattle.std.specs.Prelude.{ℕ, ◌+◌, List, [], ◌∷◌, ◌++◌, bytes_eq, if◌then◌else◌}
+use Rattle.std.specs.Prelude.{ℕ, ◌+◌, List, [], ◌∷◌, ◌++◌, map, bytes_eq, if◌then◌else◌}
 use Rattle.lf_text.specs.declared.token.Token.{Token}
 use Rattle.lf_text.specs.declared.token.TokenKind.{TokenKind}
 use Rattle.lf_text.specs.declared.token.TokenKind.TheVariants.{Open, Sep, Close}
@@ -20,7 +20,7 @@ outermost = record { number = 0; levels = [] }
 
 -- what counts one, besides opening brackets
 abbrev pub counted : List (List ℕ)
-counted = utf8 "fun" ∷ utf8 "λ" ∷ utf8 "∀" ∷ utf8 "forall" ∷ utf8 "let" ∷ utf8 "by" ∷ utf8 "·" ∷ utf8 "@" ∷ operators
+counted = map utf8 ("fun" ∷ "λ" ∷ "∀" ∷ "forall" ∷ "let" ∷ "by" ∷ "·" ∷ "@" ∷ []) ++ operators
 
 -- a block goes on or has ended: the number at its opening again
 abbrev pub back_to_block : Nesting → List Level → Nesting

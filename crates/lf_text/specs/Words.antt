@@ -1,4 +1,4 @@
-use Rattle.std.specs.Prelude.{ℕ, Bool, List, [], ◌∷◌, ◌++◌, codes, bytes_eq}
+use Rattle.std.specs.Prelude.{ℕ, Bool, List, [], ◌∷◌, ◌++◌, map, codes, bytes_eq}
 use Rattle.std.specs.List.{list_any}
 use Rattle.std.specs.Str.{encode_utf8_all}
 use Prim.Native.String.{String}
@@ -14,15 +14,17 @@ is_among texts bytes = list_any (λ text. bytes_eq text bytes) texts
 -- what begins a command
 abbrev pub command_words : List (List ℕ)
 command_words =
-    utf8 "#check" ∷ utf8 "#reduce" ∷ utf8 "axiom" ∷ utf8 "def" ∷ utf8 "end" ∷ utf8 "inductive" ∷ utf8 "namespace" ∷ utf8 "open"
-    ∷ utf8 "section" ∷ utf8 "theorem" ∷ utf8 "universe" ∷ utf8 "variable" ∷ []
+    map utf8
+    ("#check" ∷ "#reduce" ∷ "axiom" ∷ "def" ∷ "end" ∷ "inductive" ∷ "namespace" ∷ "open" ∷ "section" ∷ "theorem" ∷
+    "universe" ∷ "variable" ∷ [])
 
 -- what begins a command that the profile leaves out
 abbrev pub left_out_words : List (List ℕ)
 left_out_words =
-    utf8 "#eval" ∷ utf8 "#print" ∷ utf8 "@[" ∷ utf8 "abbrev" ∷ utf8 "attribute" ∷ utf8 "class" ∷ utf8 "deriving" ∷ utf8 "example"
-    ∷ utf8 "import" ∷ utf8 "instance" ∷ utf8 "macro" ∷ utf8 "mutual" ∷ utf8 "noncomputable" ∷ utf8 "notation" ∷ utf8 "opaque"
-    ∷ utf8 "partial" ∷ utf8 "private" ∷ utf8 "protected" ∷ utf8 "set_option" ∷ utf8 "structure" ∷ utf8 "syntax" ∷ utf8 "unsafe" ∷ []
+    map utf8
+    ("#eval" ∷ "#print" ∷ "@[" ∷ "abbrev" ∷ "attribute" ∷ "class" ∷ "deriving" ∷ "example" ∷ "import" ∷
+    "instance" ∷ "macro" ∷ "mutual" ∷ "noncomputable" ∷ "notation" ∷ "opaque" ∷ "partial" ∷ "private" ∷
+    "protected" ∷ "set_option" ∷ "structure" ∷ "syntax" ∷ "unsafe" ∷ [])
 
 -- what begins a command of either list
 abbrev pub begins_command : List ℕ → Bool
@@ -31,30 +33,34 @@ begins_command text = is_among (command_words ++ left_out_words) text
 -- the reserved words: those of the two lists that are names, the others, and the hole `_`
 abbrev pub reserved_words : List (List ℕ)
 reserved_words =
-    utf8 "Prop" ∷ utf8 "Sort" ∷ utf8 "Type" ∷ utf8 "_" ∷ utf8 "abbrev" ∷ utf8 "attribute" ∷ utf8 "axiom" ∷ utf8 "by" ∷ utf8 "class"
-    ∷ utf8 "def" ∷ utf8 "deriving" ∷ utf8 "end" ∷ utf8 "example" ∷ utf8 "forall" ∷ utf8 "fun" ∷ utf8 "import" ∷ utf8 "inductive"
-    ∷ utf8 "instance" ∷ utf8 "let" ∷ utf8 "macro" ∷ utf8 "mutual" ∷ utf8 "namespace" ∷ utf8 "noncomputable" ∷ utf8 "notation"
-    ∷ utf8 "opaque" ∷ utf8 "open" ∷ utf8 "partial" ∷ utf8 "private" ∷ utf8 "protected" ∷ utf8 "section" ∷ utf8 "set_option"
-    ∷ utf8 "sorry" ∷ utf8 "structure" ∷ utf8 "syntax" ∷ utf8 "theorem" ∷ utf8 "universe" ∷ utf8 "unsafe" ∷ utf8 "variable"
-    ∷ utf8 "where" ∷ []
+    map utf8
+    ("Prop" ∷ "Sort" ∷ "Type" ∷ "_" ∷ "abbrev" ∷ "attribute" ∷ "axiom" ∷ "by" ∷ "class" ∷ "def" ∷ "deriving" ∷
+    "end" ∷ "example" ∷ "forall" ∷ "fun" ∷ "import" ∷ "inductive" ∷ "instance" ∷ "let" ∷ "macro" ∷ "mutual" ∷
+    "namespace" ∷ "noncomputable" ∷ "notation" ∷ "opaque" ∷ "open" ∷ "partial" ∷ "private" ∷ "protected" ∷
+    "section" ∷ "set_option" ∷ "sorry" ∷ "structure" ∷ "syntax" ∷ "theorem" ∷ "universe" ∷ "unsafe" ∷
+    "variable" ∷ "where" ∷ [])
 
 -- the operators
 abbrev pub operators : List (List ℕ)
 operators =
-    utf8 "%" ∷ utf8 "*" ∷ utf8 "+" ∷ utf8 "-" ∷ utf8 "->" ∷ utf8 "/" ∷ utf8 "/\\" ∷ utf8 "<->" ∷ utf8 "=" ∷ utf8 "\\/" ∷ utf8 "¬"
-    ∷ utf8 "→" ∷ utf8 "↔" ∷ utf8 "∧" ∷ utf8 "∨" ∷ utf8 "≠" ∷ []
+    map utf8
+    ("%" ∷ "*" ∷ "+" ∷ "-" ∷ "->" ∷ "/" ∷ "/\\" ∷ "<->" ∷ "=" ∷ "\\/" ∷ "¬" ∷ "→" ∷ "↔" ∷ "∧" ∷ "∨" ∷ "≠" ∷ [])
 
 -- the symbols
 abbrev pub symbols : List (List ℕ)
 symbols =
-    utf8 "#check" ∷ utf8 "#eval" ∷ utf8 "#print" ∷ utf8 "#reduce" ∷ utf8 "%" ∷ utf8 "(" ∷ utf8 ")" ∷ utf8 "*" ∷ utf8 "+" ∷ utf8 ","
-    ∷ utf8 "-" ∷ utf8 "->" ∷ utf8 ".{" ∷ utf8 "/" ∷ utf8 "/\\" ∷ utf8 ":" ∷ utf8 ":=" ∷ utf8 ";" ∷ utf8 "<-" ∷ utf8 "<->" ∷ utf8 "="
-    ∷ utf8 "=>" ∷ utf8 "@" ∷ utf8 "@[" ∷ utf8 "[" ∷ utf8 "\\/" ∷ utf8 "]" ∷ utf8 "{" ∷ utf8 "|" ∷ utf8 "}" ∷ utf8 "¬" ∷ utf8 "·"
-    ∷ utf8 "λ" ∷ utf8 "←" ∷ utf8 "→" ∷ utf8 "↔" ∷ utf8 "↦" ∷ utf8 "∀" ∷ utf8 "∧" ∷ utf8 "∨" ∷ utf8 "≠" ∷ []
+    map utf8
+    ("#check" ∷ "#eval" ∷ "#print" ∷ "#reduce" ∷ "%" ∷ "(" ∷ ")" ∷ "*" ∷ "+" ∷ "," ∷ "-" ∷ "->" ∷ ".{" ∷ "/" ∷
+    "/\\" ∷ ":" ∷ ":=" ∷ ";" ∷ "<-" ∷ "<->" ∷ "=" ∷ "=>" ∷ "@" ∷ "@[" ∷ "[" ∷ "\\/" ∷ "]" ∷ "{" ∷ "|" ∷ "}" ∷
+    "¬" ∷ "·" ∷ "λ" ∷ "←" ∷ "→" ∷ "↔" ∷ "↦" ∷ "∀" ∷ "∧" ∷ "∨" ∷ "≠" ∷ [])
 
 -- the brackets that open, and those that close
 abbrev pub opening_brackets : List (List ℕ)
-opening_brackets = utf8 "(" ∷ utf8 ".{" ∷ utf8 "[" ∷ utf8 "{" ∷ []
+opening_brackets = map utf8 ("(" ∷ ".{" ∷ "[" ∷ "{" ∷ [])
 
 abbrev pub closing_brackets : List (List ℕ)
-closing_brackets = utf8 ")" ∷ utf8 "]" ∷ utf8 "}" ∷ []
+closing_brackets = map utf8 (")" ∷ "]" ∷ "}" ∷ [])
+
+-- what a block opens behind, but `where`
+abbrev pub block_openers : List (List ℕ)
+block_openers = map utf8 ("by" ∷ "·" ∷ [])

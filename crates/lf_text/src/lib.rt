@@ -2,10 +2,10 @@
 #![tactic(auto)]
 
 mod frame;
+#[cfg(test)]
+mod tests;
 mod text;
 mod token;
-
-ghost use Rattle.std.specs.Prelude.{◌≡◌};
 
 pub use frame::Frame;
 pub use text::{LARGEST_TEXT, Text, TextFault};
