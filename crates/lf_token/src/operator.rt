@@ -1,0 +1,46 @@
+use lf_tables::{Table, rows};
+
+/// On which side an operator takes its like without brackets.
+#[derive(Clone, Copy, Debug, PartialEq, Eq)]
+pub enum Side {
+    /// `a - b - c` is `(a - b) - c`.
+    Left,
+    /// `a → b → c` is `a → (b → c)`.
+    Right,
+    /// On none: `a = b = c` isn't read.
+    Neither,
+    /// It stands before its one operand.
+    Prefix,
+}
+
+/// How an operator binds.
+#[derive(Clone, Copy, Debug, PartialEq, Eq)]
+pub struct Operator {
+    /// The higher, the tighter.
+    pub level: u8,
+    /// Its side.
+    pub side: Side,
+}
+
+/// The operator that is written so, if the text is one. Takes no memory.
+pub fn operator_of(text: &str) -> Option<Operator> {
+    let rows = rows! {
+        "%" => Operator { level: 70, side: Side::Left },
+        "*" => Operator { level: 70, side: Side::Left },
+        "+" => Operator { level: 65, side: Side::Left },
+        "-" => Operator { level: 65, side: Side::Left },
+        "->" => Operator { level: 25, side: Side::Right },
+        "/" => Operator { level: 70, side: Side::Left },
+        "/\\" => Operator { level: 35, side: Side::Right },
+        "<->" => Operator { level: 20, side: Side::Neither },
+        "=" => Operator { level: 50, side: Side::Neither },
+        "\\/" => Operator { level: 30, side: Side::Right },
+        "¬" => Operator { level: 40, side: Side::Prefix },
+        "→" => Operator { level: 25, side: Side::Right },
+        "↔" => Operator { level: 20, side: Side::Neither },
+        "∧" => Operator { level: 35, side: Side::Right },
+        "∨" => Operator { level: 30, side: Side::Right },
+        "≠" => Operator { level: 50, side: Side::Neither },
+    };
+    Table::new(&rows).find(text)
+}
