@@ -14,10 +14,10 @@ use Rattle.lf_syntax.specs.Grammar.{grammar}
 use Rattle.lf_grammar_laws.specs.Follow.{Next, at_end, closer, at_colon, other, Asks, nothing_more, calm_next, no_colon, asks, allows, next_of, next, settled}
 
 abbrev pub of_word : Word → Piece
-of_word w = record { class = piece.word w; at = 0; «end» = 0 }
+of_word w = record { class = piece.word w; at = 0; «end» = 0; nesting = 0 }
 
 abbrev pub of_name : piece.Spelling → Piece
-of_name s = record { class = piece.name s []; at = 0; «end» = 0 }
+of_name s = record { class = piece.name s []; at = 0; «end» = 0; nesting = 0 }
 
 -- Tokens with which nothing optional begins.
 pub data Closer : Type 0 where
@@ -250,8 +250,8 @@ take_term l ts h = took (term l) (of_word piece.underscore) ts ts (both (leave_a
 abbrev pub tokens_for : Symbol → List Piece
 tokens_for command = of_word piece.section_word ∷ []
 tokens_for (token w) = of_word w ∷ []
-tokens_for arrow_token = record { class = piece.operator Arrow; at = 0; «end» = 0 } ∷ []
-tokens_for number_token = record { class = piece.number 0; at = 0; «end» = 0 } ∷ []
+tokens_for arrow_token = record { class = piece.operator Arrow; at = 0; «end» = 0; nesting = 0 } ∷ []
+tokens_for number_token = record { class = piece.number 0; at = 0; «end» = 0; nesting = 0 } ∷ []
 tokens_for any_name = of_name piece.plain_name ∷ []
 tokens_for one_part = of_name piece.plain_name ∷ []
 tokens_for binder_name = of_word piece.underscore ∷ []
@@ -282,9 +282,9 @@ tokens_for group_close = of_word piece.right_paren ∷ []
 tokens_for binder_end = []
 tokens_for written_levels = []
 tokens_for more_levels = of_word piece.right_brace ∷ []
-tokens_for level = record { class = piece.number 0; at = 0; «end» = 0 } ∷ []
+tokens_for level = record { class = piece.number 0; at = 0; «end» = 0; nesting = 0 } ∷ []
 tokens_for plus_option = []
-tokens_for level_atom = record { class = piece.number 0; at = 0; «end» = 0 } ∷ []
+tokens_for level_atom = record { class = piece.number 0; at = 0; «end» = 0; nesting = 0 } ∷ []
 tokens_for level_atoms = []
 tokens_for (max_rest x) = []
 tokens_for (imax_rest x) = []
@@ -329,8 +329,8 @@ finish_group_names at before x ts h =
 pub finish : (x : Symbol) (ts : List Piece) → Behind (asks x) ts → Reads grammar (x ∷ []) (tokens_for x ++ ts) ts
 finish command ts h = took command (of_word piece.section_word) ts ts (leave_optional_name ts (calmer ts h))
 finish (token w) ts h = take_token w ts
-finish arrow_token ts h = took arrow_token (record { class = piece.operator Arrow; at = 0; «end» = 0 }) ts ts nothing
-finish number_token ts h = took number_token (record { class = piece.number 0; at = 0; «end» = 0 }) ts ts nothing
+finish arrow_token ts h = took arrow_token (record { class = piece.operator Arrow; at = 0; «end» = 0; nesting = 0 }) ts ts nothing
+finish number_token ts h = took number_token (record { class = piece.number 0; at = 0; «end» = 0; nesting = 0 }) ts ts nothing
 finish any_name ts h = took any_name (of_name piece.plain_name) ts ts nothing
 finish one_part ts h = took one_part (of_name piece.plain_name) ts ts nothing
 finish binder_name ts h = took binder_name (of_word piece.underscore) ts ts nothing
@@ -361,9 +361,9 @@ finish group_close ts h = took group_close (of_word piece.right_paren) ts ts (le
 finish binder_end ts h = leave_binder_end ts h
 finish written_levels ts h = leave_written_levels ts h
 finish more_levels ts h = took more_levels (of_word piece.right_brace) ts ts nothing
-finish level ts h = took level (record { class = piece.number 0; at = 0; «end» = 0 }) ts ts (leave_plus_option ts h)
+finish level ts h = took level (record { class = piece.number 0; at = 0; «end» = 0; nesting = 0 }) ts ts (leave_plus_option ts h)
 finish plus_option ts h = leave_plus_option ts h
-finish level_atom ts h = took level_atom (record { class = piece.number 0; at = 0; «end» = 0 }) ts ts nothing
+finish level_atom ts h = took level_atom (record { class = piece.number 0; at = 0; «end» = 0; nesting = 0 }) ts ts nothing
 finish level_atoms ts h = leave_level_atoms ts h
 finish (max_rest x) ts h = leave_max_rest x ts h
 finish (imax_rest x) ts h = leave_imax_rest x ts h

@@ -1,51 +1,16 @@
 -- A step of the machine keeps its stack one that can be finished.
 use Rattle.std.proofs.Common.{◌≡◌, ℕ, List, [], ◌∷◌, ◌++◌, Bool, true, false, not, ◌&&◌, ◌||◌, Option, Some, None, refl, sym, ap, ◌∙◌, subst, true≢false}
 use Rattle.lf_syntax.specs.declared.leaf.Ident.{Ident}
-use Rattle.lf_syntax.specs.declared.leaf.Num.{Num}
-use Rattle.lf_syntax.specs.declared.leaf.Op.{Op}
-use Rattle.lf_syntax.specs.Piece.{Class, word, name, number, operator, wrong}
+use Rattle.lf_syntax.specs.Piece.{Class}
 use Rattle.lf_syntax.specs.Symbol.{Symbol, Tree, Spine, any_name, any_names, arguments, arrow_token, binder, binder_end, binder_name, binder_names, block, command, ctors, def_rest, group, group_close, group_end, group_names, helper, helpers, imax_rest, implicit_end, item, lambda_binder, lambda_binders, level, level_atom, level_atoms, level_names, max_rest, more_helpers, more_items, more_level_names, more_levels, more_rules, number_token, one_part, one_parts, operators, optional_name, parameters, plus_option, rw_rule, term, token, type_option, where_option, written_levels}
-use Rattle.lf_syntax.specs.Row.{Row, Prod, on_word, on_name, on_one_part, on_spelling, on_number, on_operator, try, first_row, if_true, begins_as}
+use Rattle.lf_syntax.specs.Row.{Row, Prod, first_row}
 use Rattle.lf_syntax.specs.Build.{is_underscore, group_of, names_spine}
 use Rattle.lf_syntax.specs.Rows.{rows, group_names_rows_by, name_levels_rows, argument_rows, operator_rows, group_end_rows}
 use Rattle.lf_grammar_laws.specs.Follow.{Next, at_end, closer, at_colon, other, Asks, asks, allows, next_of, next, settled, serves}
-
-abbrev pub RowServes : {V : Type 0} → Asks → Row V → Type 0
-RowServes a (on_word w f) = (at : ℕ) → serves a (f at).body ≡ true
-RowServes a (on_name f) = (x : Ident) → serves a (f x).body ≡ true
-RowServes a (on_one_part f) = (x : Ident) → serves a (f x).body ≡ true
-RowServes a (on_spelling s f) = (x : Ident) → serves a (f x).body ≡ true
-RowServes a (on_number f) = (n : Num) → serves a (f n).body ≡ true
-RowServes a (on_operator test f) = (o : Op) → serves a (f o).body ≡ true
+use Rattle.lf_grammar_laws.proofs.Found.{InRows, found}
 
 abbrev pub AllServe : {V : Type 0} → Asks → List (Row V) → Type 0
-AllServe a [] = Unit {0}
-AllServe a (r ∷ rs) = RowServes a r × AllServe a rs
-
-if_serves : {V : Type 0} (a : Asks) (b : Bool) (p q : Prod V) → serves a p.body ≡ true → if_true b p ≡ Some q → serves a q.body ≡ true
-if_serves a true p q h e = let f : p ≡ q = cc in subst (λ (r : Prod _). serves a r.body ≡ true) f h
-if_serves a false p q h e = cc
-
-some_serves : {V : Type 0} (a : Asks) (p q : Prod V) → serves a p.body ≡ true → ◌≡◌ {A = Option (Prod V)} (Some p) (Some q) → serves a q.body ≡ true
-some_serves {V} a p q h e = let f : p ≡ q = cc in subst (λ (r : Prod V). serves a r.body ≡ true) f h
-
-try_serves : {V : Type 0} (a : Asks) (r : Row V) (c : Class) (at : ℕ) (p : Prod V) → RowServes a r → try r c at ≡ Some p → serves a p.body ≡ true
-try_serves a (on_word w f) (word v) at p h e = if_serves a _ (f at) p (h at) e
-try_serves a (on_name f) (name s x) at p h e = some_serves a (f (record { at = at; name = x })) p (h (record { at = at; name = x })) e
-try_serves a (on_one_part f) (name s x) at p h e = if_serves a _ (f (record { at = at; name = x })) p (h (record { at = at; name = x })) e
-try_serves a (on_spelling r f) (name s x) at p h e = if_serves a _ (f (record { at = at; name = x })) p (h (record { at = at; name = x })) e
-try_serves a (on_number f) (number n) at p h e = some_serves a (f (record { at = at; value = n })) p (h (record { at = at; value = n })) e
-try_serves a (on_operator test f) (operator o) at p h e = if_serves a (test o) (f o) p (h o) e
-try_serves a _ _ at p h e = cc
-
-found_serves : {V : Type 0} (a : Asks) (rs : List (Row V)) (c : Class) (at : ℕ) (p : Prod V) → AllServe a rs → first_row rs c at ≡ Some p → serves a p.body ≡ true
-found_serves a [] c at p h e = cc
-found_serves {V} a (r ∷ rs) c at p h e = go (try r c at) refl e (found_serves a rs c at p h.1)
-  where
-    go : (o : Option (Prod V)) → try r c at ≡ o → elim o as (λ _. Option (Prod V)) [ Some q ↦ Some q | None ↦ first_row rs c at ] ≡ Some p →
-        (first_row rs c at ≡ Some p → serves a p.body ≡ true) → serves a p.body ≡ true
-    go (Some q) f e ih = try_serves a r c at p h.0 (f ∙ e)
-    go None f e ih = ih e
+AllServe {V} a rs = InRows (λ (p : Prod V). serves a p.body ≡ true) rs
 
 group_names_serve : (b : Bool) (at : ℕ) (before : List Ident) (x : Ident) → AllServe (asks (group_names at before x)) (group_names_rows_by b at before x)
 group_names_serve true at before x = (λ _. refl, (λ _. refl, (λ _. refl, (λ _. refl, (λ _. refl, (λ _. refl, (λ _. refl, (λ _. refl, (λ _. refl, (λ _. refl, (λ _. refl, (λ _. refl, (λ _. refl, (λ _. refl, (λ _. refl, (λ _. refl, (λ _. refl, (λ _. refl, (λ _. refl, (λ _. refl, tt))))))))))))))))))))
@@ -100,4 +65,4 @@ all_serve more_rules = (λ _. refl, (λ _. refl, tt))
 all_serve (group_names at before x) = group_names_serve (is_underscore x.name) at before x
 
 pub body_serves : (x : Symbol) (c : Class) (at : ℕ) (p : Prod (Tree x)) → first_row (rows x) c at ≡ Some p → serves (asks x) p.body ≡ true
-body_serves x c at p e = found_serves (asks x) (rows x) c at p (all_serve x) e
+body_serves x c at p e = found (λ (q : Prod (Tree x)). serves (asks x) q.body ≡ true) (rows x) c at p (all_serve x) e

@@ -1,6 +1,8 @@
 pub mod Predict
 pub mod Viable
+pub mod Found
 pub mod Kept
 pub mod Closing
 pub mod Grammar
+pub mod Document
 pub mod Texts

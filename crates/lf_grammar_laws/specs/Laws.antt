@@ -1,5 +1,8 @@
 -- The laws of the grammar.
-use Rattle.std.specs.Prelude.{◌≡◌, ◌↔◌, List, [], ◌∷◌}
+use Rattle.std.specs.Prelude.{◌≡◌, ◌↔◌, ℕ, List, [], ◌∷◌}
+use Rattle.lf_syntax.specs.declared.leaf.SyntaxFault.{SyntaxFault}
+use Rattle.lf_syntax.specs.declared.command.Command.TheVariants.{Bad}
+use Rattle.lf_syntax.specs.Document.{IsCommand, CommandsOf}
 use Rattle.lf_syntax.specs.Piece.{Piece}
 use Rattle.lf_syntax.specs.Symbol.{command}
 use Rattle.lf_syntax.specs.declared.command.Command.{Command}
@@ -36,3 +39,15 @@ Completable = (ts : List Piece) → ((last : List Piece) → outcome ts ≡ Stuc
 -- The machine stops at the first token that doesn't belong.
 abbrev pub StuckIsLocal : Type 0
 StuckIsLocal = (ts last : List Piece) → outcome ts ≡ Stuck last → BadAt ts last
+
+-- The tokens of a command are exactly one command, bad ones among them.
+abbrev pub OneCommand : Type 0
+OneCommand = (ts : List Piece) → (c : Command) × IsCommand ts c × ((d : Command) → IsCommand ts d → d ≡ c)
+
+-- A text has exactly one list of commands.
+abbrev pub OneDocument : Type 0
+OneDocument = (bytes : List ℕ) → (cs : List Command) × CommandsOf bytes cs × ((ds : List Command) → CommandsOf bytes ds → ds ≡ cs)
+
+-- No derivation gives a bad command: a command is bad only by its nesting, its first token that doesn't belong, or its end.
+abbrev pub NeverBad : Type 0
+NeverBad = (ts : List Piece) (at : ℕ) (f : SyntaxFault) → Derives ts (Bad at f) → ⊥

@@ -27,7 +27,7 @@ abbrev pub Right : Text → Type 0
 Right t = IsAnswer t.tokens t.answer
 
 abbrev token : Class → ℕ → ℕ → Piece
-token c at e = record { class = c; at = at; «end» = e }
+token c at e = record { class = c; at = at; «end» = e; nesting = 0 }
 
 abbrev id : ℕ → List ℕ → Ident
 id at w = record { at = at; name = w ∷ [] }

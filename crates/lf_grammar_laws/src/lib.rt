@@ -1,7 +1,7 @@
 //! Laws of the grammar of commands: each public function's contract is one of them, and it does nothing.
 #![tactic(auto)]
 
-ghost use Rattle.lf_grammar_laws.specs.Laws.{OneAnswer, MachineAnswers, Complete, Sound, Completable, StuckIsLocal};
+ghost use Rattle.lf_grammar_laws.specs.Laws.{OneAnswer, MachineAnswers, Complete, Sound, Completable, StuckIsLocal, OneCommand, OneDocument, NeverBad};
 ghost use Rattle.lf_grammar_laws.specs.Worked.{Worked};
 
 /// A list of tokens is a command with one tree, or bad at one place, or a beginning that ends early: exactly one of these.
@@ -43,5 +43,23 @@ pub fn stuck_is_local()
 /// The worked texts have the answers that are written beside them.
 pub fn worked()
     ensures { Worked }
+{
+}
+
+/// The tokens of a command are exactly one command, bad ones among them.
+pub fn one_command()
+    ensures { OneCommand }
+{
+}
+
+/// Each text, by its bytes, has exactly one list of commands.
+pub fn one_document()
+    ensures { OneDocument }
+{
+}
+
+/// No derivation gives a bad command.
+pub fn never_bad()
+    ensures { NeverBad }
 {
 }

@@ -7,6 +7,8 @@ pub mod Row
 pub mod Build
 pub mod Rows
 pub mod Grammar
+pub mod Classes
+pub mod Document
 pub mod Codes
 pub mod Size
 pub mod Node

@@ -29,11 +29,33 @@ pub data Class : Type 0 where
   -- A token that no command has, with the fault where it stands.
   wrong : SyntaxFault → Class
 
--- A token: its class, where it begins and where it ends, in bytes.
+-- A token: its class, where it begins and where it ends, in bytes, and its nesting number.
 pub record Piece : Type 0 where
   pub class : Class
   pub at : ℕ
   pub «end» : ℕ
+  pub nesting : ℕ
+
+-- The words that begin a command.
+abbrev pub is_command_word : Word → Bool
+is_command_word axiom_word = true
+is_command_word def_word = true
+is_command_word theorem_word = true
+is_command_word inductive_word = true
+is_command_word namespace_word = true
+is_command_word section_word = true
+is_command_word end_word = true
+is_command_word open_word = true
+is_command_word universe_word = true
+is_command_word variable_word = true
+is_command_word check_word = true
+is_command_word reduce_word = true
+is_command_word left_out_word = true
+is_command_word _ = false
+
+abbrev pub begins_command : Class → Bool
+begins_command (word w) = is_command_word w
+begins_command _ = false
 
 -- Numbers by which words are told apart.
 abbrev pub word_code : Word → ℕ
