@@ -1,101 +1,222 @@
 -- The worked texts, by the machine.
-use Rattle.std.proofs.Common.{◌≡◌, refl}
+use Rattle.std.proofs.Common.{◌≡◌, refl, List}
+use Rattle.std.specs.Str.{chars}
+use Rattle.std.specs.Char.{encode_utf8}
+use Rattle.unicode_ident.proofs.Computing.{unicode_ident}
+use Rattle.lf_text.specs.Lexemes.{lexemes_of, starts_part, continues_part}
+use Rattle.lf_text.specs.Tokens.{tokens_of}
+use Rattle.lf_syntax.specs.Piece.{Piece}
+use Rattle.lf_syntax.specs.Classes.{pieces_of}
 use Rattle.lf_grammar_laws.specs.Laws.{outcome, answer_of}
-use Rattle.lf_grammar_laws.specs.Worked.{Text, Right, Worked, def_without_name, axiom_without_type, wide_numeral, type_of_application, type_of_levels_in_name, type_of_sum, type_of_max, type_of_max_plus, lead_as_left_side, not_reaches_over_equality, not_behind_a_sum, arrow_behind_a_binder, arrow_as_an_argument, names_with_a_type, two_groups_and_an_arrow, where_behind_a_value, max_of_one_level, by_at_the_end, exact_at_the_end, equality_of_three, iff_of_three, braces_without_a_type, constructors, helpers_with_and_without_binders, a_chain, sides, terms_of_items, nested_dots, commands_without_a_word, a_left_out_command}
+use Rattle.lf_grammar_laws.specs.Worked.{Text, Right, Worked, def_without_name_text, axiom_without_type_text, wide_numeral_text, bad_character_behind_a_bad_token_text, no_command_word_text, left_out_command_text, attribute_in_a_term_text, type_of_an_application_text, type_before_written_levels_text, type_of_a_sum_text, type_of_a_maximum_text, type_of_no_level_text, sort_of_a_bare_maximum_text, maximum_of_one_level_text, levels_in_braces_text, sides_text, arrows_and_connectives_text, equality_of_three_text, iff_of_three_text, lead_as_the_left_side_text, not_reaches_over_an_equality_text, not_behind_a_sum_text, not_stops_before_and_text, arrow_behind_a_binder_text, arrow_as_an_argument_text, arrow_behind_an_equality_text, two_groups_and_an_arrow_text, braces_and_an_arrow_text, names_with_a_type_text, names_that_go_on_text, braces_without_a_type_text, binders_of_fun_text, let_in_a_let_text, by_at_the_end_text, exact_at_the_end_text, items_text, nested_dots_text, where_behind_a_value_text, definition_without_a_type_text, helpers_text, theorem_text, constructors_text, no_constructors_text, axiom_with_levels_text, namespace_text, section_without_a_name_text, end_with_a_name_text, open_names_text, universe_names_text, variables_text, reduction_text}
 use Rattle.lf_grammar_laws.proofs.Grammar.{machine_answers}
 
-right : (t : Text) → answer_of (outcome t.tokens) ≡ t.answer → Right t
-right t e = (machine_answers t.tokens t.answer).1 e
+right : (t : Text) → answer_of (outcome (pieces_of t.bytes)) ≡ t.answer (pieces_of t.bytes) → Right t
+right t e = (machine_answers (pieces_of t.bytes) (t.answer (pieces_of t.bytes))).1 e
 
-def_without_name_right : Right def_without_name
-def_without_name_right = right def_without_name refl
+def_without_name_text_right : Right def_without_name_text
+unfolding lexemes_of tokens_of chars starts_part continues_part unicode_ident encode_utf8
+def_without_name_text_right = right def_without_name_text refl
 
-axiom_without_type_right : Right axiom_without_type
-axiom_without_type_right = right axiom_without_type refl
+axiom_without_type_text_right : Right axiom_without_type_text
+unfolding lexemes_of tokens_of chars starts_part continues_part unicode_ident encode_utf8
+axiom_without_type_text_right = right axiom_without_type_text refl
 
-wide_numeral_right : Right wide_numeral
-wide_numeral_right = right wide_numeral refl
+wide_numeral_text_right : Right wide_numeral_text
+unfolding lexemes_of tokens_of chars starts_part continues_part unicode_ident encode_utf8
+wide_numeral_text_right = right wide_numeral_text refl
 
-type_of_application_right : Right type_of_application
-type_of_application_right = right type_of_application refl
+bad_character_behind_a_bad_token_text_right : Right bad_character_behind_a_bad_token_text
+unfolding lexemes_of tokens_of chars starts_part continues_part unicode_ident encode_utf8
+bad_character_behind_a_bad_token_text_right = right bad_character_behind_a_bad_token_text refl
 
-type_of_levels_in_name_right : Right type_of_levels_in_name
-type_of_levels_in_name_right = right type_of_levels_in_name refl
+no_command_word_text_right : Right no_command_word_text
+unfolding lexemes_of tokens_of chars starts_part continues_part unicode_ident encode_utf8
+no_command_word_text_right = right no_command_word_text refl
 
-type_of_sum_right : Right type_of_sum
-type_of_sum_right = right type_of_sum refl
+left_out_command_text_right : Right left_out_command_text
+unfolding lexemes_of tokens_of chars starts_part continues_part unicode_ident encode_utf8
+left_out_command_text_right = right left_out_command_text refl
 
-type_of_max_right : Right type_of_max
-type_of_max_right = right type_of_max refl
+attribute_in_a_term_text_right : Right attribute_in_a_term_text
+unfolding lexemes_of tokens_of chars starts_part continues_part unicode_ident encode_utf8
+attribute_in_a_term_text_right = right attribute_in_a_term_text refl
 
-type_of_max_plus_right : Right type_of_max_plus
-type_of_max_plus_right = right type_of_max_plus refl
+type_of_an_application_text_right : Right type_of_an_application_text
+unfolding lexemes_of tokens_of chars starts_part continues_part unicode_ident encode_utf8
+type_of_an_application_text_right = right type_of_an_application_text refl
 
-lead_as_left_side_right : Right lead_as_left_side
-lead_as_left_side_right = right lead_as_left_side refl
+type_before_written_levels_text_right : Right type_before_written_levels_text
+unfolding lexemes_of tokens_of chars starts_part continues_part unicode_ident encode_utf8
+type_before_written_levels_text_right = right type_before_written_levels_text refl
 
-not_reaches_over_equality_right : Right not_reaches_over_equality
-not_reaches_over_equality_right = right not_reaches_over_equality refl
+type_of_a_sum_text_right : Right type_of_a_sum_text
+unfolding lexemes_of tokens_of chars starts_part continues_part unicode_ident encode_utf8
+type_of_a_sum_text_right = right type_of_a_sum_text refl
 
-not_behind_a_sum_right : Right not_behind_a_sum
-not_behind_a_sum_right = right not_behind_a_sum refl
+type_of_a_maximum_text_right : Right type_of_a_maximum_text
+unfolding lexemes_of tokens_of chars starts_part continues_part unicode_ident encode_utf8
+type_of_a_maximum_text_right = right type_of_a_maximum_text refl
 
-arrow_behind_a_binder_right : Right arrow_behind_a_binder
-arrow_behind_a_binder_right = right arrow_behind_a_binder refl
+type_of_no_level_text_right : Right type_of_no_level_text
+unfolding lexemes_of tokens_of chars starts_part continues_part unicode_ident encode_utf8
+type_of_no_level_text_right = right type_of_no_level_text refl
 
-arrow_as_an_argument_right : Right arrow_as_an_argument
-arrow_as_an_argument_right = right arrow_as_an_argument refl
+sort_of_a_bare_maximum_text_right : Right sort_of_a_bare_maximum_text
+unfolding lexemes_of tokens_of chars starts_part continues_part unicode_ident encode_utf8
+sort_of_a_bare_maximum_text_right = right sort_of_a_bare_maximum_text refl
 
-names_with_a_type_right : Right names_with_a_type
-names_with_a_type_right = right names_with_a_type refl
+maximum_of_one_level_text_right : Right maximum_of_one_level_text
+unfolding lexemes_of tokens_of chars starts_part continues_part unicode_ident encode_utf8
+maximum_of_one_level_text_right = right maximum_of_one_level_text refl
 
-two_groups_and_an_arrow_right : Right two_groups_and_an_arrow
-two_groups_and_an_arrow_right = right two_groups_and_an_arrow refl
+levels_in_braces_text_right : Right levels_in_braces_text
+unfolding lexemes_of tokens_of chars starts_part continues_part unicode_ident encode_utf8
+levels_in_braces_text_right = right levels_in_braces_text refl
 
-where_behind_a_value_right : Right where_behind_a_value
-where_behind_a_value_right = right where_behind_a_value refl
+sides_text_right : Right sides_text
+unfolding lexemes_of tokens_of chars starts_part continues_part unicode_ident encode_utf8
+sides_text_right = right sides_text refl
 
-max_of_one_level_right : Right max_of_one_level
-max_of_one_level_right = right max_of_one_level refl
+arrows_and_connectives_text_right : Right arrows_and_connectives_text
+unfolding lexemes_of tokens_of chars starts_part continues_part unicode_ident encode_utf8
+arrows_and_connectives_text_right = right arrows_and_connectives_text refl
 
-by_at_the_end_right : Right by_at_the_end
-by_at_the_end_right = right by_at_the_end refl
+equality_of_three_text_right : Right equality_of_three_text
+unfolding lexemes_of tokens_of chars starts_part continues_part unicode_ident encode_utf8
+equality_of_three_text_right = right equality_of_three_text refl
 
-exact_at_the_end_right : Right exact_at_the_end
-exact_at_the_end_right = right exact_at_the_end refl
+iff_of_three_text_right : Right iff_of_three_text
+unfolding lexemes_of tokens_of chars starts_part continues_part unicode_ident encode_utf8
+iff_of_three_text_right = right iff_of_three_text refl
 
-equality_of_three_right : Right equality_of_three
-equality_of_three_right = right equality_of_three refl
+lead_as_the_left_side_text_right : Right lead_as_the_left_side_text
+unfolding lexemes_of tokens_of chars starts_part continues_part unicode_ident encode_utf8
+lead_as_the_left_side_text_right = right lead_as_the_left_side_text refl
 
-iff_of_three_right : Right iff_of_three
-iff_of_three_right = right iff_of_three refl
+not_reaches_over_an_equality_text_right : Right not_reaches_over_an_equality_text
+unfolding lexemes_of tokens_of chars starts_part continues_part unicode_ident encode_utf8
+not_reaches_over_an_equality_text_right = right not_reaches_over_an_equality_text refl
 
-braces_without_a_type_right : Right braces_without_a_type
-braces_without_a_type_right = right braces_without_a_type refl
+not_behind_a_sum_text_right : Right not_behind_a_sum_text
+unfolding lexemes_of tokens_of chars starts_part continues_part unicode_ident encode_utf8
+not_behind_a_sum_text_right = right not_behind_a_sum_text refl
 
-constructors_right : Right constructors
-constructors_right = right constructors refl
+not_stops_before_and_text_right : Right not_stops_before_and_text
+unfolding lexemes_of tokens_of chars starts_part continues_part unicode_ident encode_utf8
+not_stops_before_and_text_right = right not_stops_before_and_text refl
 
-helpers_with_and_without_binders_right : Right helpers_with_and_without_binders
-helpers_with_and_without_binders_right = right helpers_with_and_without_binders refl
+arrow_behind_a_binder_text_right : Right arrow_behind_a_binder_text
+unfolding lexemes_of tokens_of chars starts_part continues_part unicode_ident encode_utf8
+arrow_behind_a_binder_text_right = right arrow_behind_a_binder_text refl
 
-a_chain_right : Right a_chain
-a_chain_right = right a_chain refl
+arrow_as_an_argument_text_right : Right arrow_as_an_argument_text
+unfolding lexemes_of tokens_of chars starts_part continues_part unicode_ident encode_utf8
+arrow_as_an_argument_text_right = right arrow_as_an_argument_text refl
 
-sides_right : Right sides
-sides_right = right sides refl
+arrow_behind_an_equality_text_right : Right arrow_behind_an_equality_text
+unfolding lexemes_of tokens_of chars starts_part continues_part unicode_ident encode_utf8
+arrow_behind_an_equality_text_right = right arrow_behind_an_equality_text refl
 
-terms_of_items_right : Right terms_of_items
-terms_of_items_right = right terms_of_items refl
+two_groups_and_an_arrow_text_right : Right two_groups_and_an_arrow_text
+unfolding lexemes_of tokens_of chars starts_part continues_part unicode_ident encode_utf8
+two_groups_and_an_arrow_text_right = right two_groups_and_an_arrow_text refl
 
-nested_dots_right : Right nested_dots
-nested_dots_right = right nested_dots refl
+braces_and_an_arrow_text_right : Right braces_and_an_arrow_text
+unfolding lexemes_of tokens_of chars starts_part continues_part unicode_ident encode_utf8
+braces_and_an_arrow_text_right = right braces_and_an_arrow_text refl
 
-commands_without_a_word_right : Right commands_without_a_word
-commands_without_a_word_right = right commands_without_a_word refl
+names_with_a_type_text_right : Right names_with_a_type_text
+unfolding lexemes_of tokens_of chars starts_part continues_part unicode_ident encode_utf8
+names_with_a_type_text_right = right names_with_a_type_text refl
 
-a_left_out_command_right : Right a_left_out_command
-a_left_out_command_right = right a_left_out_command refl
+names_that_go_on_text_right : Right names_that_go_on_text
+unfolding lexemes_of tokens_of chars starts_part continues_part unicode_ident encode_utf8
+names_that_go_on_text_right = right names_that_go_on_text refl
+
+braces_without_a_type_text_right : Right braces_without_a_type_text
+unfolding lexemes_of tokens_of chars starts_part continues_part unicode_ident encode_utf8
+braces_without_a_type_text_right = right braces_without_a_type_text refl
+
+binders_of_fun_text_right : Right binders_of_fun_text
+unfolding lexemes_of tokens_of chars starts_part continues_part unicode_ident encode_utf8
+binders_of_fun_text_right = right binders_of_fun_text refl
+
+let_in_a_let_text_right : Right let_in_a_let_text
+unfolding lexemes_of tokens_of chars starts_part continues_part unicode_ident encode_utf8
+let_in_a_let_text_right = right let_in_a_let_text refl
+
+by_at_the_end_text_right : Right by_at_the_end_text
+unfolding lexemes_of tokens_of chars starts_part continues_part unicode_ident encode_utf8
+by_at_the_end_text_right = right by_at_the_end_text refl
+
+exact_at_the_end_text_right : Right exact_at_the_end_text
+unfolding lexemes_of tokens_of chars starts_part continues_part unicode_ident encode_utf8
+exact_at_the_end_text_right = right exact_at_the_end_text refl
+
+items_text_right : Right items_text
+unfolding lexemes_of tokens_of chars starts_part continues_part unicode_ident encode_utf8
+items_text_right = right items_text refl
+
+nested_dots_text_right : Right nested_dots_text
+unfolding lexemes_of tokens_of chars starts_part continues_part unicode_ident encode_utf8
+nested_dots_text_right = right nested_dots_text refl
+
+where_behind_a_value_text_right : Right where_behind_a_value_text
+unfolding lexemes_of tokens_of chars starts_part continues_part unicode_ident encode_utf8
+where_behind_a_value_text_right = right where_behind_a_value_text refl
+
+definition_without_a_type_text_right : Right definition_without_a_type_text
+unfolding lexemes_of tokens_of chars starts_part continues_part unicode_ident encode_utf8
+definition_without_a_type_text_right = right definition_without_a_type_text refl
+
+helpers_text_right : Right helpers_text
+unfolding lexemes_of tokens_of chars starts_part continues_part unicode_ident encode_utf8
+helpers_text_right = right helpers_text refl
+
+theorem_text_right : Right theorem_text
+unfolding lexemes_of tokens_of chars starts_part continues_part unicode_ident encode_utf8
+theorem_text_right = right theorem_text refl
+
+constructors_text_right : Right constructors_text
+unfolding lexemes_of tokens_of chars starts_part continues_part unicode_ident encode_utf8
+constructors_text_right = right constructors_text refl
+
+no_constructors_text_right : Right no_constructors_text
+unfolding lexemes_of tokens_of chars starts_part continues_part unicode_ident encode_utf8
+no_constructors_text_right = right no_constructors_text refl
+
+axiom_with_levels_text_right : Right axiom_with_levels_text
+unfolding lexemes_of tokens_of chars starts_part continues_part unicode_ident encode_utf8
+axiom_with_levels_text_right = right axiom_with_levels_text refl
+
+namespace_text_right : Right namespace_text
+unfolding lexemes_of tokens_of chars starts_part continues_part unicode_ident encode_utf8
+namespace_text_right = right namespace_text refl
+
+section_without_a_name_text_right : Right section_without_a_name_text
+unfolding lexemes_of tokens_of chars starts_part continues_part unicode_ident encode_utf8
+section_without_a_name_text_right = right section_without_a_name_text refl
+
+end_with_a_name_text_right : Right end_with_a_name_text
+unfolding lexemes_of tokens_of chars starts_part continues_part unicode_ident encode_utf8
+end_with_a_name_text_right = right end_with_a_name_text refl
+
+open_names_text_right : Right open_names_text
+unfolding lexemes_of tokens_of chars starts_part continues_part unicode_ident encode_utf8
+open_names_text_right = right open_names_text refl
+
+universe_names_text_right : Right universe_names_text
+unfolding lexemes_of tokens_of chars starts_part continues_part unicode_ident encode_utf8
+universe_names_text_right = right universe_names_text refl
+
+variables_text_right : Right variables_text
+unfolding lexemes_of tokens_of chars starts_part continues_part unicode_ident encode_utf8
+variables_text_right = right variables_text refl
+
+reduction_text_right : Right reduction_text
+unfolding lexemes_of tokens_of chars starts_part continues_part unicode_ident encode_utf8
+reduction_text_right = right reduction_text refl
 
 pub worked : Worked
-worked = (def_without_name_right, axiom_without_type_right, wide_numeral_right, type_of_application_right, type_of_levels_in_name_right, type_of_sum_right, type_of_max_right, type_of_max_plus_right, lead_as_left_side_right, not_reaches_over_equality_right, not_behind_a_sum_right, arrow_behind_a_binder_right, arrow_as_an_argument_right, names_with_a_type_right, two_groups_and_an_arrow_right, where_behind_a_value_right, max_of_one_level_right, by_at_the_end_right, exact_at_the_end_right, equality_of_three_right, iff_of_three_right, braces_without_a_type_right, constructors_right, helpers_with_and_without_binders_right, a_chain_right, sides_right, terms_of_items_right, nested_dots_right, commands_without_a_word_right, a_left_out_command_right)
+worked = (def_without_name_text_right, axiom_without_type_text_right, wide_numeral_text_right, bad_character_behind_a_bad_token_text_right, no_command_word_text_right, left_out_command_text_right, attribute_in_a_term_text_right, type_of_an_application_text_right, type_before_written_levels_text_right, type_of_a_sum_text_right, type_of_a_maximum_text_right, type_of_no_level_text_right, sort_of_a_bare_maximum_text_right, maximum_of_one_level_text_right, levels_in_braces_text_right, sides_text_right, arrows_and_connectives_text_right, equality_of_three_text_right, iff_of_three_text_right, lead_as_the_left_side_text_right, not_reaches_over_an_equality_text_right, not_behind_a_sum_text_right, not_stops_before_and_text_right, arrow_behind_a_binder_text_right, arrow_as_an_argument_text_right, arrow_behind_an_equality_text_right, two_groups_and_an_arrow_text_right, braces_and_an_arrow_text_right, names_with_a_type_text_right, names_that_go_on_text_right, braces_without_a_type_text_right, binders_of_fun_text_right, let_in_a_let_text_right, by_at_the_end_text_right, exact_at_the_end_text_right, items_text_right, nested_dots_text_right, where_behind_a_value_text_right, definition_without_a_type_text_right, helpers_text_right, theorem_text_right, constructors_text_right, no_constructors_text_right, axiom_with_levels_text_right, namespace_text_right, section_without_a_name_text_right, end_with_a_name_text_right, open_names_text_right, universe_names_text_right, variables_text_right, reduction_text_right)

@@ -1,33 +1,31 @@
--- Worked texts: the answer for the tokens of each.
+-- Worked texts, each of one command: the answer for its tokens. Places are in bytes.
 use Rattle.std.specs.Prelude.{◌≡◌, ℕ, List, [], ◌∷◌, Option, Some, None, true, false, codes, drop}
+use Prim.Native.String.{String}
 use Rattle.lf_core.specs.declared.binder.BinderKind.TheVariants.{Explicit, Implicit}
 use Rattle.lf_syntax.specs.declared.leaf.Ident.{Ident}
 use Rattle.lf_syntax.specs.declared.leaf.Num.{Num}
-use Rattle.lf_syntax.specs.declared.leaf.Op.TheVariants.{Iff, Arrow, Or, And, Eq, Ne, Add, Sub, Mul, Div, Mod}
-use Rattle.lf_syntax.specs.declared.leaf.SyntaxFault.TheVariants.{Wide, Char}
-use Rattle.lf_syntax.specs.Tree.{LevelTree, level_name, level_plus, level_max, levels_of, TermTree, ident, numeral, type_u, paren, no_term, some_term, app, oper, not_term, fun_term, forall_term, by_term, arrow, binders, plain, implicit, terms_of, binders_of, items_of, rules_of, block, exact, intro, apply, rfl, assumption_item, rw_item, unfold_item, have_item, induction, cases, injection, sorry_item, rule}
+use Rattle.lf_syntax.specs.declared.leaf.Op.TheVariants.{Arrow, Or, And, Eq, Add, Sub, Mul, Mod}
+use Rattle.lf_syntax.specs.Tree.{LevelTree, level_number, level_name, level_plus, level_max, level_imax, levels_of, TermTree, ident, numeral, hole, sorry_term, type_u, sort_u, paren, no_term, some_term, app, oper, not_term, fun_term, forall_term, let_term, by_term, arrow, binders, plain, typed, implicit, terms_of as terms, binders_of as lambdas, items_of as items, rules_of as rules, block, exact, intro, apply, rfl, assumption_item, rw_item, unfold_item, have_item, induction, cases, injection, sorry_item, rule}
 use Rattle.lf_syntax.specs.declared.term.Binders.{Binders}
 use Rattle.lf_syntax.specs.declared.command.Decl.{Decl}
 use Rattle.lf_syntax.specs.declared.command.Helper.{Helper}
 use Rattle.lf_syntax.specs.declared.command.CtorDecl.{CtorDecl}
-use Rattle.lf_syntax.specs.declared.command.Command.TheVariants.{Def, Inductive, Check}
-use Rattle.lf_syntax.specs.Piece as piece
-use Rattle.lf_syntax.specs.Piece.{Class, word, name, number, operator, wrong, Piece, apply_name, assign, assumption_name, axiom_word, back_arrow, bar, by_word, cases_name, check_word, colon, comma, def_word, dot, exact_name, fat_arrow, forall_word, fun_word, have_name, induction_name, inductive_word, injection_name, intro_name, layout_close, layout_open, layout_sep, left_brace, left_bracket, left_out_word, left_paren, level_brace, max_name, not_sign, plain_name, prop_word, rfl_name, right_brace, right_bracket, right_paren, rw_name, several, sorry_word, type_word, underscore, unfold_name, where_word}
+use Rattle.lf_syntax.specs.declared.command.Command.TheVariants.{Axiom, Def, Theorem, Inductive, Namespace, Section, End, OpenNames, Universe, Variable, Check, Reduce}
+use Rattle.lf_syntax.specs.Piece.{Piece}
+use Rattle.lf_syntax.specs.Classes.{pieces_of}
 use Rattle.lf_syntax.specs.Grammar.{Answer, IsAnswer, is_command, is_bad, is_short}
+use Rattle.lf_text.specs.Words.{utf8}
 
--- Tokens, and their answer.
+-- A text, and the answer for its tokens.
 pub record Text : Type 0 where
-  pub tokens : List Piece
-  pub answer : Answer
+  pub bytes : List ℕ
+  pub answer : List Piece → Answer
 
-abbrev pub text : List Piece → (List Piece → Answer) → Text
-text tokens answer = record { tokens = tokens; answer = answer tokens }
+abbrev pub text : String → (List Piece → Answer) → Text
+text written answer = record { bytes = utf8 written; answer = answer }
 
 abbrev pub Right : Text → Type 0
-Right t = IsAnswer t.tokens t.answer
-
-abbrev token : Class → ℕ → ℕ → Piece
-token c at e = record { class = c; at = at; «end» = e; nesting = 0 }
+Right t = let tokens : List Piece = pieces_of t.bytes in IsAnswer tokens (t.answer tokens)
 
 abbrev id : ℕ → List ℕ → Ident
 id at w = record { at = at; name = w ∷ [] }
@@ -53,156 +51,159 @@ helper at x bs ty t = record { at = at; name = x; binders = bs; ty = ty; value =
 abbrev ctor : ℕ → Ident → List Binders → Option TermTree → CtorDecl
 ctor at x bs ty = record { at = at; name = x; binders = bs; ty = ty }
 
--- `def := 3`
-abbrev pub def_without_name : Text
-def_without_name = text (token (word def_word) 0 3 ∷ token (word assign) 4 6 ∷ token (number 3) 7 8 ∷ [])
-    (λ tokens. is_bad (drop 1 tokens))
+abbrev pub def_without_name_text : Text
+def_without_name_text = text "def := 3" (λ tokens. is_bad (drop 1 tokens))
 
--- `axiom A`
-abbrev pub axiom_without_type : Text
-axiom_without_type = text (token (word axiom_word) 0 5 ∷ token (name plain_name (codes "A" ∷ [])) 6 7 ∷ [])
-    (λ tokens. is_short)
+abbrev pub axiom_without_type_text : Text
+axiom_without_type_text = text "axiom A" (λ tokens. is_short)
 
--- `#check 340282366920938463463374607431768211456`
-abbrev pub wide_numeral : Text
-wide_numeral = text (token (word check_word) 0 6 ∷ token (wrong Wide) 7 46 ∷ [])
-    (λ tokens. is_bad (drop 1 tokens))
+abbrev pub wide_numeral_text : Text
+wide_numeral_text = text "#check 340282366920938463463374607431768211456" (λ tokens. is_bad (drop 1 tokens))
 
--- `#check Type (f x)`
-abbrev pub type_of_application : Text
-type_of_application = text (token (word check_word) 0 6 ∷ token (word type_word) 7 11 ∷ token (word left_paren) 12 13 ∷ token (name plain_name (codes "f" ∷ [])) 13 14 ∷ token (name plain_name (codes "x" ∷ [])) 15 16 ∷ token (word right_paren) 16 17 ∷ [])
-    (λ tokens. is_command (Check 0 (app 7 (type_u 7 None) (terms_of ((paren 12 (app 13 (v 13 (codes "f")) (terms_of ((v 15 (codes "x")) ∷ []))) no_term) ∷ [])))))
+abbrev pub bad_character_behind_a_bad_token_text : Text
+bad_character_behind_a_bad_token_text = text "def := ?" (λ tokens. is_bad (drop 1 tokens))
 
--- `#check Type x.{u}`
-abbrev pub type_of_levels_in_name : Text
-type_of_levels_in_name = text (token (word check_word) 0 6 ∷ token (word type_word) 7 11 ∷ token (name plain_name (codes "x" ∷ [])) 12 13 ∷ token (word level_brace) 13 15 ∷ token (name plain_name (codes "u" ∷ [])) 15 16 ∷ token (word right_brace) 16 17 ∷ [])
-    (λ tokens. is_command (Check 0 (app 7 (type_u 7 None) (terms_of ((ident 12 false (id 12 (codes "x")) (level_name (id 15 (codes "u")) ∷ [])) ∷ [])))))
+abbrev pub no_command_word_text : Text
+no_command_word_text = text "A : Prop" (λ tokens. is_bad (drop 0 tokens))
 
--- `#check Type (u + 1)`
-abbrev pub type_of_sum : Text
-type_of_sum = text (token (word check_word) 0 6 ∷ token (word type_word) 7 11 ∷ token (word left_paren) 12 13 ∷ token (name plain_name (codes "u" ∷ [])) 13 14 ∷ token (operator Add) 15 16 ∷ token (number 1) 17 18 ∷ token (word right_paren) 18 19 ∷ [])
-    (λ tokens. is_command (Check 0 (type_u 7 (Some (level_plus 13 (level_name (id 13 (codes "u"))) (num 17 1))))))
+abbrev pub left_out_command_text : Text
+left_out_command_text = text "#print A" (λ tokens. is_bad (drop 0 tokens))
 
--- `#check Type (max u v) x`
-abbrev pub type_of_max : Text
-type_of_max = text (token (word check_word) 0 6 ∷ token (word type_word) 7 11 ∷ token (word left_paren) 12 13 ∷ token (name max_name (codes "max" ∷ [])) 13 16 ∷ token (name plain_name (codes "u" ∷ [])) 17 18 ∷ token (name plain_name (codes "v" ∷ [])) 19 20 ∷ token (word right_paren) 20 21 ∷ token (name plain_name (codes "x" ∷ [])) 22 23 ∷ [])
-    (λ tokens. is_command (Check 0 (app 7 (type_u 7 (Some (level_max 13 (levels_of (level_name (id 17 (codes "u")) ∷ level_name (id 19 (codes "v")) ∷ []))))) (terms_of ((v 22 (codes "x")) ∷ [])))))
+abbrev pub attribute_in_a_term_text : Text
+attribute_in_a_term_text = text "@[x] def f := 1" (λ tokens. is_bad (drop 0 tokens))
 
--- `#check Type (max u v + 1)`
-abbrev pub type_of_max_plus : Text
-type_of_max_plus = text (token (word check_word) 0 6 ∷ token (word type_word) 7 11 ∷ token (word left_paren) 12 13 ∷ token (name max_name (codes "max" ∷ [])) 13 16 ∷ token (name plain_name (codes "u" ∷ [])) 17 18 ∷ token (name plain_name (codes "v" ∷ [])) 19 20 ∷ token (operator Add) 21 22 ∷ token (number 1) 23 24 ∷ token (word right_paren) 24 25 ∷ [])
-    (λ tokens. is_command (Check 0 (app 7 (type_u 7 None) (terms_of (paren 12 (oper 13 Add (app 13 (v 13 (codes "max")) (terms_of ((v 17 (codes "u")) ∷ (v 19 (codes "v")) ∷ []))) (numeral (num 23 1))) no_term ∷ [])))))
+abbrev pub type_of_an_application_text : Text
+type_of_an_application_text = text "#check Type (f x)" (λ tokens. is_command (Check 0 (app 7 (type_u 7 None) (terms (paren 12 (app 13 (v 13 (codes "f")) (terms ((v 15 (codes "x")) ∷ []))) no_term ∷ [])))))
 
--- `#check fun x => a = b = c`
-abbrev pub lead_as_left_side : Text
-lead_as_left_side = text (token (word check_word) 0 6 ∷ token (word fun_word) 7 10 ∷ token (name plain_name (codes "x" ∷ [])) 11 12 ∷ token (word fat_arrow) 13 15 ∷ token (name plain_name (codes "a" ∷ [])) 16 17 ∷ token (operator Eq) 18 19 ∷ token (name plain_name (codes "b" ∷ [])) 20 21 ∷ token (operator Eq) 22 23 ∷ token (name plain_name (codes "c" ∷ [])) 24 25 ∷ [])
-    (λ tokens. is_command (Check 0 (oper 7 Eq (fun_term 7 (binders_of (plain (id 11 (codes "x")) ∷ [])) (oper 16 Eq (v 16 (codes "a")) (v 20 (codes "b")))) (v 24 (codes "c")))))
+abbrev pub type_before_written_levels_text : Text
+type_before_written_levels_text = text "#check Type x.{u}" (λ tokens. is_command (Check 0 (app 7 (type_u 7 None) (terms (ident 12 false (id 12 (codes "x")) (level_name (id 15 (codes "u")) ∷ []) ∷ [])))))
 
--- `#check ¬ a = b`
-abbrev pub not_reaches_over_equality : Text
-not_reaches_over_equality = text (token (word check_word) 0 6 ∷ token (word not_sign) 7 9 ∷ token (name plain_name (codes "a" ∷ [])) 10 11 ∷ token (operator Eq) 12 13 ∷ token (name plain_name (codes "b" ∷ [])) 14 15 ∷ [])
-    (λ tokens. is_command (Check 0 (not_term 7 (oper 10 Eq (v 10 (codes "a")) (v 14 (codes "b"))))))
+abbrev pub type_of_a_sum_text : Text
+type_of_a_sum_text = text "#check Type (u + 1)" (λ tokens. is_command (Check 0 (type_u 7 (Some (level_plus 13 (level_name (id 13 (codes "u"))) (num 17 1))))))
 
--- `#check a + ¬ b + c`
-abbrev pub not_behind_a_sum : Text
-not_behind_a_sum = text (token (word check_word) 0 6 ∷ token (name plain_name (codes "a" ∷ [])) 7 8 ∷ token (operator Add) 9 10 ∷ token (word not_sign) 11 13 ∷ token (name plain_name (codes "b" ∷ [])) 14 15 ∷ token (operator Add) 16 17 ∷ token (name plain_name (codes "c" ∷ [])) 18 19 ∷ [])
-    (λ tokens. is_command (Check 0 (oper 7 Add (v 7 (codes "a")) (not_term 11 (oper 14 Add (v 14 (codes "b")) (v 18 (codes "c")))))))
+abbrev pub type_of_a_maximum_text : Text
+type_of_a_maximum_text = text "#check Type (max u v) x" (λ tokens. is_command (Check 0 (app 7 (type_u 7 (Some (level_max 13 (levels_of (level_name (id 17 (codes "u")) ∷ level_name (id 19 (codes "v")) ∷ []))))) (terms ((v 22 (codes "x")) ∷ [])))))
 
--- `#check (x : A) → B`
-abbrev pub arrow_behind_a_binder : Text
-arrow_behind_a_binder = text (token (word check_word) 0 6 ∷ token (word left_paren) 7 8 ∷ token (name plain_name (codes "x" ∷ [])) 8 9 ∷ token (word colon) 10 11 ∷ token (name plain_name (codes "A" ∷ [])) 12 13 ∷ token (word right_paren) 13 14 ∷ token (operator Arrow) 15 18 ∷ token (name plain_name (codes "B" ∷ [])) 19 20 ∷ [])
-    (λ tokens. is_command (Check 0 (arrow 7 (binders 7 Explicit (id 8 (codes "x") ∷ []) (v 12 (codes "A"))) (v 19 (codes "B")))))
+abbrev pub type_of_no_level_text : Text
+type_of_no_level_text = text "#check Type (max u v + 1)" (λ tokens. is_command (Check 0 (app 7 (type_u 7 None) (terms (paren 12 (oper 13 Add (app 13 (v 13 (codes "max")) (terms ((v 17 (codes "u")) ∷ (v 19 (codes "v")) ∷ []))) (numeral (num 23 1))) no_term ∷ [])))))
 
--- `#check f (x : A) → B`
-abbrev pub arrow_as_an_argument : Text
-arrow_as_an_argument = text (token (word check_word) 0 6 ∷ token (name plain_name (codes "f" ∷ [])) 7 8 ∷ token (word left_paren) 9 10 ∷ token (name plain_name (codes "x" ∷ [])) 10 11 ∷ token (word colon) 12 13 ∷ token (name plain_name (codes "A" ∷ [])) 14 15 ∷ token (word right_paren) 15 16 ∷ token (operator Arrow) 17 20 ∷ token (name plain_name (codes "B" ∷ [])) 21 22 ∷ [])
-    (λ tokens. is_command (Check 0 (app 7 (v 7 (codes "f")) (terms_of (arrow 9 (binders 9 Explicit (id 10 (codes "x") ∷ []) (v 14 (codes "A"))) (v 21 (codes "B")) ∷ [])))))
+abbrev pub sort_of_a_bare_maximum_text : Text
+sort_of_a_bare_maximum_text = text "#check Sort max u" (λ tokens. is_command (Check 0 (app 7 (sort_u 7 (Some (level_name (id 12 (codes "max"))))) (terms ((v 16 (codes "u")) ∷ [])))))
 
--- `#check (x y : T)`
-abbrev pub names_with_a_type : Text
-names_with_a_type = text (token (word check_word) 0 6 ∷ token (word left_paren) 7 8 ∷ token (name plain_name (codes "x" ∷ [])) 8 9 ∷ token (name plain_name (codes "y" ∷ [])) 10 11 ∷ token (word colon) 12 13 ∷ token (name plain_name (codes "T" ∷ [])) 14 15 ∷ token (word right_paren) 15 16 ∷ [])
-    (λ tokens. is_command (Check 0 (paren 7 (app 8 (v 8 (codes "x")) (terms_of ((v 10 (codes "y")) ∷ []))) (some_term (v 14 (codes "T"))))))
+abbrev pub maximum_of_one_level_text : Text
+maximum_of_one_level_text = text "#check f.{max u}" (λ tokens. is_bad (drop 5 tokens))
 
--- `#check (x : A) (y : B) → C`
-abbrev pub two_groups_and_an_arrow : Text
-two_groups_and_an_arrow = text (token (word check_word) 0 6 ∷ token (word left_paren) 7 8 ∷ token (name plain_name (codes "x" ∷ [])) 8 9 ∷ token (word colon) 10 11 ∷ token (name plain_name (codes "A" ∷ [])) 12 13 ∷ token (word right_paren) 13 14 ∷ token (word left_paren) 15 16 ∷ token (name plain_name (codes "y" ∷ [])) 16 17 ∷ token (word colon) 18 19 ∷ token (name plain_name (codes "B" ∷ [])) 20 21 ∷ token (word right_paren) 21 22 ∷ token (operator Arrow) 23 26 ∷ token (name plain_name (codes "C" ∷ [])) 27 28 ∷ [])
-    (λ tokens. is_command (Check 0 (app 7 (paren 7 (v 8 (codes "x")) (some_term (v 12 (codes "A")))) (terms_of (arrow 15 (binders 15 Explicit (id 16 (codes "y") ∷ []) (v 20 (codes "B"))) (v 27 (codes "C")) ∷ [])))))
+abbrev pub levels_in_braces_text : Text
+levels_in_braces_text = text "#check f.{max u 1, imax u (v), 2 + 3}" (λ tokens. is_command (Check 0 (ident 7 false (id 7 (codes "f")) (level_max 10 (levels_of (level_name (id 14 (codes "u")) ∷ level_number (num 16 1) ∷ [])) ∷ level_imax 19 (level_name (id 24 (codes "u"))) (level_name (id 27 (codes "v"))) ∷ level_plus 31 (level_number (num 31 2)) (num 35 3) ∷ []))))
 
--- `def f := v where`
-abbrev pub where_behind_a_value : Text
-where_behind_a_value = text (token (word def_word) 0 3 ∷ token (name plain_name (codes "f" ∷ [])) 4 5 ∷ token (word assign) 6 8 ∷ token (name plain_name (codes "v" ∷ [])) 9 10 ∷ token (word where_word) 11 16 ∷ [])
-    (λ tokens. is_bad (drop 4 tokens))
+abbrev pub sides_text : Text
+sides_text = text "#check a - b - c * d" (λ tokens. is_command (Check 0 (oper 7 Sub (oper 7 Sub (v 7 (codes "a")) (v 11 (codes "b"))) (oper 15 Mul (v 15 (codes "c")) (v 19 (codes "d"))))))
 
--- `#check f.{max u}`
-abbrev pub max_of_one_level : Text
-max_of_one_level = text (token (word check_word) 0 6 ∷ token (name plain_name (codes "f" ∷ [])) 7 8 ∷ token (word level_brace) 8 10 ∷ token (name max_name (codes "max" ∷ [])) 10 13 ∷ token (name plain_name (codes "u" ∷ [])) 14 15 ∷ token (word right_brace) 15 16 ∷ [])
-    (λ tokens. is_bad (drop 5 tokens))
+abbrev pub arrows_and_connectives_text : Text
+arrows_and_connectives_text = text "#check a → b ∨ c ∧ d → e" (λ tokens. is_command (Check 0 (oper 7 Arrow (v 7 (codes "a")) (oper 13 Arrow (oper 13 Or (v 13 (codes "b")) (oper 19 And (v 19 (codes "c")) (v 25 (codes "d")))) (v 31 (codes "e"))))))
 
--- `#check by`
-abbrev pub by_at_the_end : Text
-by_at_the_end = text (token (word check_word) 0 6 ∷ token (word by_word) 7 9 ∷ [])
-    (λ tokens. is_short)
+abbrev pub equality_of_three_text : Text
+equality_of_three_text = text "#check a = b = c" (λ tokens. is_bad (drop 4 tokens))
 
--- `#check by exact`
-abbrev pub exact_at_the_end : Text
-exact_at_the_end = text (token (word check_word) 0 6 ∷ token (word by_word) 7 9 ∷ token (word layout_open) 10 10 ∷ token (name exact_name (codes "exact" ∷ [])) 10 15 ∷ token (word layout_close) 15 15 ∷ [])
-    (λ tokens. is_bad (drop 4 tokens))
+abbrev pub iff_of_three_text : Text
+iff_of_three_text = text "#check a ↔ b ↔ c" (λ tokens. is_bad (drop 4 tokens))
 
--- `#check a = b = c`
-abbrev pub equality_of_three : Text
-equality_of_three = text (token (word check_word) 0 6 ∷ token (name plain_name (codes "a" ∷ [])) 7 8 ∷ token (operator Eq) 9 10 ∷ token (name plain_name (codes "b" ∷ [])) 11 12 ∷ token (operator Eq) 13 14 ∷ token (name plain_name (codes "c" ∷ [])) 15 16 ∷ [])
-    (λ tokens. is_bad (drop 4 tokens))
+abbrev pub lead_as_the_left_side_text : Text
+lead_as_the_left_side_text = text "#check fun x => a = b = c" (λ tokens. is_command (Check 0 (oper 7 Eq (fun_term 7 (lambdas (plain (id 11 (codes "x")) ∷ [])) (oper 16 Eq (v 16 (codes "a")) (v 20 (codes "b")))) (v 24 (codes "c")))))
 
--- `#check a ↔ b ↔ c`
-abbrev pub iff_of_three : Text
-iff_of_three = text (token (word check_word) 0 6 ∷ token (name plain_name (codes "a" ∷ [])) 7 8 ∷ token (operator Iff) 9 12 ∷ token (name plain_name (codes "b" ∷ [])) 13 14 ∷ token (operator Iff) 15 18 ∷ token (name plain_name (codes "c" ∷ [])) 19 20 ∷ [])
-    (λ tokens. is_bad (drop 4 tokens))
+abbrev pub not_reaches_over_an_equality_text : Text
+not_reaches_over_an_equality_text = text "#check ¬ a = b" (λ tokens. is_command (Check 0 (not_term 7 (oper 10 Eq (v 10 (codes "a")) (v 14 (codes "b"))))))
 
--- `#check ∀ {x}, p`
-abbrev pub braces_without_a_type : Text
-braces_without_a_type = text (token (word check_word) 0 6 ∷ token (word forall_word) 7 10 ∷ token (word left_brace) 11 12 ∷ token (name plain_name (codes "x" ∷ [])) 12 13 ∷ token (word right_brace) 13 14 ∷ token (word comma) 14 15 ∷ token (name plain_name (codes "p" ∷ [])) 16 17 ∷ [])
-    (λ tokens. is_command (Check 0 (forall_term 7 (binders_of (implicit 11 (id 12 (codes "x") ∷ []) ∷ [])) (v 16 (codes "p")))))
+abbrev pub not_behind_a_sum_text : Text
+not_behind_a_sum_text = text "#check a + ¬ b + c" (λ tokens. is_command (Check 0 (oper 7 Add (v 7 (codes "a")) (not_term 11 (oper 14 Add (v 14 (codes "b")) (v 18 (codes "c")))))))
 
--- `inductive T where | a : T | b`
-abbrev pub constructors : Text
-constructors = text (token (word inductive_word) 0 9 ∷ token (name plain_name (codes "T" ∷ [])) 10 11 ∷ token (word where_word) 12 17 ∷ token (word bar) 18 19 ∷ token (name plain_name (codes "a" ∷ [])) 20 21 ∷ token (word colon) 22 23 ∷ token (name plain_name (codes "T" ∷ [])) 24 25 ∷ token (word bar) 26 27 ∷ token (name plain_name (codes "b" ∷ [])) 28 29 ∷ [])
-    (λ tokens. is_command (Inductive (decl 0 (id 10 (codes "T")) [] [] None) (ctor 18 (id 20 (codes "a")) [] (Some (v 24 (codes "T"))) ∷ ctor 26 (id 28 (codes "b")) [] None ∷ [])))
+abbrev pub not_stops_before_and_text : Text
+not_stops_before_and_text = text "#check ¬ a ∧ b" (λ tokens. is_command (Check 0 (oper 7 And (not_term 7 (v 10 (codes "a"))) (v 16 (codes "b")))))
 
--- `def f : N := a where a : N := b ; b (x : N) : N := x`
-abbrev pub helpers_with_and_without_binders : Text
-helpers_with_and_without_binders = text (token (word def_word) 0 3 ∷ token (name plain_name (codes "f" ∷ [])) 4 5 ∷ token (word colon) 6 7 ∷ token (name plain_name (codes "N" ∷ [])) 8 9 ∷ token (word assign) 10 12 ∷ token (name plain_name (codes "a" ∷ [])) 13 14 ∷ token (word where_word) 15 20 ∷ token (word layout_open) 21 21 ∷ token (name plain_name (codes "a" ∷ [])) 21 22 ∷ token (word colon) 23 24 ∷ token (name plain_name (codes "N" ∷ [])) 25 26 ∷ token (word assign) 27 29 ∷ token (name plain_name (codes "b" ∷ [])) 30 31 ∷ token (word layout_sep) 32 32 ∷ token (name plain_name (codes "b" ∷ [])) 32 33 ∷ token (word left_paren) 34 35 ∷ token (name plain_name (codes "x" ∷ [])) 35 36 ∷ token (word colon) 37 38 ∷ token (name plain_name (codes "N" ∷ [])) 39 40 ∷ token (word right_paren) 40 41 ∷ token (word colon) 42 43 ∷ token (name plain_name (codes "N" ∷ [])) 44 45 ∷ token (word assign) 46 48 ∷ token (name plain_name (codes "x" ∷ [])) 49 50 ∷ token (word layout_close) 50 50 ∷ [])
-    (λ tokens. is_command (Def (decl 0 (id 4 (codes "f")) [] [] (Some (v 8 (codes "N")))) (v 13 (codes "a")) (helper 21 (id 21 (codes "a")) [] (v 25 (codes "N")) (v 30 (codes "b")) ∷ helper 32 (id 32 (codes "b")) (group 34 (id 35 (codes "x") ∷ []) (v 39 (codes "N")) ∷ []) (v 44 (codes "N")) (v 49 (codes "x")) ∷ [])))
+abbrev pub arrow_behind_a_binder_text : Text
+arrow_behind_a_binder_text = text "#check (x : A) → B" (λ tokens. is_command (Check 0 (arrow 7 (binders 7 Explicit (id 8 (codes "x") ∷ []) (v 12 (codes "A"))) (v 19 (codes "B")))))
 
--- `#check a → b ∨ c ∧ d → e`
-abbrev pub a_chain : Text
-a_chain = text (token (word check_word) 0 6 ∷ token (name plain_name (codes "a" ∷ [])) 7 8 ∷ token (operator Arrow) 9 12 ∷ token (name plain_name (codes "b" ∷ [])) 13 14 ∷ token (operator Or) 15 18 ∷ token (name plain_name (codes "c" ∷ [])) 19 20 ∷ token (operator And) 21 24 ∷ token (name plain_name (codes "d" ∷ [])) 25 26 ∷ token (operator Arrow) 27 30 ∷ token (name plain_name (codes "e" ∷ [])) 31 32 ∷ [])
-    (λ tokens. is_command (Check 0 (oper 7 Arrow (v 7 (codes "a")) (oper 13 Arrow (oper 13 Or (v 13 (codes "b")) (oper 19 And (v 19 (codes "c")) (v 25 (codes "d")))) (v 31 (codes "e"))))))
+abbrev pub arrow_as_an_argument_text : Text
+arrow_as_an_argument_text = text "#check f (x : A) → B" (λ tokens. is_command (Check 0 (app 7 (v 7 (codes "f")) (terms (arrow 9 (binders 9 Explicit (id 10 (codes "x") ∷ []) (v 14 (codes "A"))) (v 21 (codes "B")) ∷ [])))))
 
--- `#check a - b - c * d`
-abbrev pub sides : Text
-sides = text (token (word check_word) 0 6 ∷ token (name plain_name (codes "a" ∷ [])) 7 8 ∷ token (operator Sub) 9 10 ∷ token (name plain_name (codes "b" ∷ [])) 11 12 ∷ token (operator Sub) 13 14 ∷ token (name plain_name (codes "c" ∷ [])) 15 16 ∷ token (operator Mul) 17 18 ∷ token (name plain_name (codes "d" ∷ [])) 19 20 ∷ [])
-    (λ tokens. is_command (Check 0 (oper 7 Sub (oper 7 Sub (v 7 (codes "a")) (v 11 (codes "b"))) (oper 15 Mul (v 15 (codes "c")) (v 19 (codes "d"))))))
+abbrev pub arrow_behind_an_equality_text : Text
+arrow_behind_an_equality_text = text "#check a = (x : A) → B" (λ tokens. is_command (Check 0 (oper 7 Eq (v 7 (codes "a")) (arrow 11 (binders 11 Explicit (id 12 (codes "x") ∷ []) (v 16 (codes "A"))) (v 23 (codes "B"))))))
 
--- `#check by exact a; intro x _; apply f; rfl; assumption; rw [← a, b]; unfold f.g; have x : T := a; induction x; cases y; injection h; sorry`
-abbrev pub terms_of_items : Text
-terms_of_items = text (token (word check_word) 0 6 ∷ token (word by_word) 7 9 ∷ token (word layout_open) 10 10 ∷ token (name exact_name (codes "exact" ∷ [])) 10 15 ∷ token (name plain_name (codes "a" ∷ [])) 16 17 ∷ token (word layout_sep) 17 17 ∷ token (name intro_name (codes "intro" ∷ [])) 17 22 ∷ token (name plain_name (codes "x" ∷ [])) 23 24 ∷ token (word underscore) 25 26 ∷ token (word layout_sep) 26 26 ∷ token (name apply_name (codes "apply" ∷ [])) 26 31 ∷ token (name plain_name (codes "f" ∷ [])) 32 33 ∷ token (word layout_sep) 33 33 ∷ token (name rfl_name (codes "rfl" ∷ [])) 33 36 ∷ token (word layout_sep) 36 36 ∷ token (name assumption_name (codes "assumption" ∷ [])) 36 46 ∷ token (word layout_sep) 46 46 ∷ token (name rw_name (codes "rw" ∷ [])) 46 48 ∷ token (word left_bracket) 49 50 ∷ token (word back_arrow) 50 53 ∷ token (name plain_name (codes "a" ∷ [])) 54 55 ∷ token (word comma) 55 56 ∷ token (name plain_name (codes "b" ∷ [])) 57 58 ∷ token (word right_bracket) 58 59 ∷ token (word layout_sep) 59 59 ∷ token (name unfold_name (codes "unfold" ∷ [])) 59 65 ∷ token (name several (codes "f" ∷ codes "g" ∷ [])) 66 69 ∷ token (word layout_sep) 69 69 ∷ token (name have_name (codes "have" ∷ [])) 69 73 ∷ token (name plain_name (codes "x" ∷ [])) 74 75 ∷ token (word colon) 76 77 ∷ token (name plain_name (codes "T" ∷ [])) 78 79 ∷ token (word assign) 80 82 ∷ token (name plain_name (codes "a" ∷ [])) 83 84 ∷ token (word layout_sep) 84 84 ∷ token (name induction_name (codes "induction" ∷ [])) 84 93 ∷ token (name plain_name (codes "x" ∷ [])) 94 95 ∷ token (word layout_sep) 95 95 ∷ token (name cases_name (codes "cases" ∷ [])) 95 100 ∷ token (name plain_name (codes "y" ∷ [])) 101 102 ∷ token (word layout_sep) 102 102 ∷ token (name injection_name (codes "injection" ∷ [])) 102 111 ∷ token (name plain_name (codes "h" ∷ [])) 112 113 ∷ token (word layout_sep) 113 113 ∷ token (word sorry_word) 113 118 ∷ token (word layout_close) 118 118 ∷ [])
-    (λ tokens. is_command (Check 0 (by_term 7 (items_of (exact 10 (v 16 (codes "a")) ∷ intro 17 (id 23 (codes "x") ∷ id 25 (codes "_") ∷ []) ∷ apply 26 (v 32 (codes "f")) ∷ rfl 33 ∷ assumption_item 36 ∷ rw_item 46 (rules_of (rule 50 true (v 54 (codes "a")) ∷ rule 57 false (v 57 (codes "b")) ∷ [])) ∷ unfold_item 59 (long 66 (codes "f") (codes "g")) ∷ have_item 69 (id 74 (codes "x")) (v 78 (codes "T")) (v 83 (codes "a")) ∷ induction 84 (id 94 (codes "x")) ∷ cases 95 (id 101 (codes "y")) ∷ injection 102 (id 112 (codes "h")) ∷ sorry_item 113 ∷ [])))))
+abbrev pub two_groups_and_an_arrow_text : Text
+two_groups_and_an_arrow_text = text "#check (x : A) (y : B) → C" (λ tokens. is_command (Check 0 (app 7 (paren 7 (v 8 (codes "x")) (some_term (v 12 (codes "A")))) (terms (arrow 15 (binders 15 Explicit (id 16 (codes "y") ∷ []) (v 20 (codes "B"))) (v 27 (codes "C")) ∷ [])))))
 
--- `#check by · exact a; · rfl; sorry`
-abbrev pub nested_dots : Text
-nested_dots = text (token (word check_word) 0 6 ∷ token (word by_word) 7 9 ∷ token (word layout_open) 10 10 ∷ token (word dot) 10 12 ∷ token (word layout_open) 13 13 ∷ token (name exact_name (codes "exact" ∷ [])) 13 18 ∷ token (name plain_name (codes "a" ∷ [])) 19 20 ∷ token (word layout_sep) 20 20 ∷ token (word dot) 20 22 ∷ token (word layout_open) 23 23 ∷ token (name rfl_name (codes "rfl" ∷ [])) 23 26 ∷ token (word layout_close) 26 26 ∷ token (word layout_close) 26 26 ∷ token (word layout_sep) 26 26 ∷ token (word sorry_word) 26 31 ∷ token (word layout_close) 31 31 ∷ [])
-    (λ tokens. is_command (Check 0 (by_term 7 (items_of (block 10 (items_of (exact 13 (v 19 (codes "a")) ∷ block 20 (items_of (rfl 23 ∷ [])) ∷ [])) ∷ sorry_item 26 ∷ [])))))
+abbrev pub braces_and_an_arrow_text : Text
+braces_and_an_arrow_text = text "#check {x _ : A} -> B" (λ tokens. is_command (Check 0 (arrow 7 (binders 7 Implicit (id 8 (codes "x") ∷ id 10 (codes "_") ∷ []) (v 14 (codes "A"))) (v 20 (codes "B")))))
 
--- `A : Prop`
-abbrev pub commands_without_a_word : Text
-commands_without_a_word = text (token (name plain_name (codes "A" ∷ [])) 0 1 ∷ token (word colon) 2 3 ∷ token (word prop_word) 4 8 ∷ [])
-    (λ tokens. is_bad (drop 0 tokens))
+abbrev pub names_with_a_type_text : Text
+names_with_a_type_text = text "#check (x y : T)" (λ tokens. is_command (Check 0 (paren 7 (app 8 (v 8 (codes "x")) (terms ((v 10 (codes "y")) ∷ []))) (some_term (v 14 (codes "T"))))))
 
--- `#print A`
-abbrev pub a_left_out_command : Text
-a_left_out_command = text (token (word left_out_word) 0 6 ∷ token (name plain_name (codes "A" ∷ [])) 7 8 ∷ [])
-    (λ tokens. is_bad (drop 0 tokens))
+abbrev pub names_that_go_on_text : Text
+names_that_go_on_text = text "#check (f _ x.{u} + 1 : T) y" (λ tokens. is_command (Check 0 (app 7 (paren 7 (oper 8 Add (app 8 (v 8 (codes "f")) (terms (hole 10 ∷ ident 12 false (id 12 (codes "x")) (level_name (id 15 (codes "u")) ∷ []) ∷ []))) (numeral (num 20 1))) (some_term (v 24 (codes "T")))) (terms ((v 27 (codes "y")) ∷ [])))))
+
+abbrev pub braces_without_a_type_text : Text
+braces_without_a_type_text = text "#check ∀ {x}, p" (λ tokens. is_command (Check 0 (forall_term 7 (lambdas (implicit 11 (id 12 (codes "x") ∷ []) ∷ [])) (v 16 (codes "p")))))
+
+abbrev pub binders_of_fun_text : Text
+binders_of_fun_text = text "#check λ (x y : A) {z : B} _ ↦ sorry" (λ tokens. is_command (Check 0 (fun_term 7 (lambdas (typed (binders 10 Explicit (id 11 (codes "x") ∷ id 13 (codes "y") ∷ []) (v 17 (codes "A"))) ∷ typed (binders 20 Implicit (id 21 (codes "z") ∷ []) (v 25 (codes "B"))) ∷ plain (id 28 (codes "_")) ∷ [])) (sorry_term 34))))
+
+abbrev pub let_in_a_let_text : Text
+let_in_a_let_text = text "#check let x : N := 1; let y := x; @f.{0} y" (λ tokens. is_command (Check 0 (let_term 7 (id 11 (codes "x")) (some_term (v 15 (codes "N"))) (numeral (num 20 1)) (let_term 23 (id 27 (codes "y")) no_term (v 32 (codes "x")) (app 35 (ident 35 true (id 36 (codes "f")) (level_number (num 39 0) ∷ [])) (terms ((v 42 (codes "y")) ∷ [])))))))
+
+abbrev pub by_at_the_end_text : Text
+by_at_the_end_text = text "#check by" (λ tokens. is_short)
+
+abbrev pub exact_at_the_end_text : Text
+exact_at_the_end_text = text "#check by exact" (λ tokens. is_bad (drop 4 tokens))
+
+abbrev pub items_text : Text
+items_text = text "#check by\n exact a\n intro x _\n apply f\n rfl\n assumption\n rw [← a, b]\n unfold f.g\n have x : T := a\n induction x\n cases y\n injection h\n sorry" (λ tokens. is_command (Check 0 (by_term 7 (items (exact 11 (v 17 (codes "a")) ∷ intro 20 (id 26 (codes "x") ∷ id 28 (codes "_") ∷ []) ∷ apply 31 (v 37 (codes "f")) ∷ rfl 40 ∷ assumption_item 45 ∷ rw_item 57 (rules (rule 61 true (v 65 (codes "a")) ∷ rule 68 false (v 68 (codes "b")) ∷ [])) ∷ unfold_item 72 (long 79 (codes "f") (codes "g")) ∷ have_item 84 (id 89 (codes "x")) (v 93 (codes "T")) (v 98 (codes "a")) ∷ induction 101 (id 111 (codes "x")) ∷ cases 114 (id 120 (codes "y")) ∷ injection 123 (id 133 (codes "h")) ∷ sorry_item 136 ∷ [])))))
+
+abbrev pub nested_dots_text : Text
+nested_dots_text = text "#check by\n · exact a\n   · rfl; rfl\n sorry" (λ tokens. is_command (Check 0 (by_term 7 (items (block 11 (items (exact 14 (v 20 (codes "a")) ∷ block 25 (items (rfl 28 ∷ rfl 33 ∷ [])) ∷ [])) ∷ sorry_item 38 ∷ [])))))
+
+abbrev pub where_behind_a_value_text : Text
+where_behind_a_value_text = text "def f := v where" (λ tokens. is_bad (drop 4 tokens))
+
+abbrev pub definition_without_a_type_text : Text
+definition_without_a_type_text = text "def f.g.{u, v} (x : A) := x" (λ tokens. is_command (Def (decl 0 (long 4 (codes "f") (codes "g")) (id 9 (codes "u") ∷ id 12 (codes "v") ∷ []) (group 15 (id 16 (codes "x") ∷ []) (v 20 (codes "A")) ∷ []) None) (v 26 (codes "x")) []))
+
+abbrev pub helpers_text : Text
+helpers_text = text "def f : N := a\nwhere\n  a : N := b\n  b (x : N) : N := x" (λ tokens. is_command (Def (decl 0 (id 4 (codes "f")) [] [] (Some (v 8 (codes "N")))) (v 13 (codes "a")) (helper 23 (id 23 (codes "a")) [] (v 27 (codes "N")) (v 32 (codes "b")) ∷ helper 36 (id 36 (codes "b")) (group 38 (id 39 (codes "x") ∷ []) (v 43 (codes "N")) ∷ []) (v 48 (codes "N")) (v 53 (codes "x")) ∷ [])))
+
+abbrev pub theorem_text : Text
+theorem_text = text "theorem t : T := by rfl" (λ tokens. is_command (Theorem (decl 0 (id 8 (codes "t")) [] [] (Some (v 12 (codes "T")))) (by_term 17 (items (rfl 20 ∷ []))) []))
+
+abbrev pub constructors_text : Text
+constructors_text = text "inductive T where | a : T | b" (λ tokens. is_command (Inductive (decl 0 (id 10 (codes "T")) [] [] None) (ctor 18 (id 20 (codes "a")) [] (Some (v 24 (codes "T"))) ∷ ctor 26 (id 28 (codes "b")) [] None ∷ [])))
+
+abbrev pub no_constructors_text : Text
+no_constructors_text = text "inductive T (x : A) : B" (λ tokens. is_command (Inductive (decl 0 (id 10 (codes "T")) [] (group 12 (id 13 (codes "x") ∷ []) (v 17 (codes "A")) ∷ []) (Some (v 22 (codes "B")))) []))
+
+abbrev pub axiom_with_levels_text : Text
+axiom_with_levels_text = text "axiom A.{u} : Sort u" (λ tokens. is_command (Axiom (decl 0 (id 6 (codes "A")) (id 9 (codes "u") ∷ []) [] (Some (sort_u 14 (Some (level_name (id 19 (codes "u")))))))))
+
+abbrev pub namespace_text : Text
+namespace_text = text "namespace A.B" (λ tokens. is_command (Namespace 0 (long 10 (codes "A") (codes "B"))))
+
+abbrev pub section_without_a_name_text : Text
+section_without_a_name_text = text "section" (λ tokens. is_command (Section 0 None))
+
+abbrev pub end_with_a_name_text : Text
+end_with_a_name_text = text "end A" (λ tokens. is_command (End 0 (Some (id 4 (codes "A")))))
+
+abbrev pub open_names_text : Text
+open_names_text = text "open A B.C" (λ tokens. is_command (OpenNames 0 (id 5 (codes "A") ∷ long 7 (codes "B") (codes "C") ∷ [])))
+
+abbrev pub universe_names_text : Text
+universe_names_text = text "universe u v" (λ tokens. is_command (Universe 0 (id 9 (codes "u") ∷ id 11 (codes "v") ∷ [])))
+
+abbrev pub variables_text : Text
+variables_text = text "variable (x y : A)" (λ tokens. is_command (Variable 0 (group 9 (id 10 (codes "x") ∷ id 12 (codes "y") ∷ []) (v 16 (codes "A")) ∷ [])))
+
+abbrev pub reduction_text : Text
+reduction_text = text "#reduce 1 % 2" (λ tokens. is_command (Reduce 0 (oper 8 Mod (numeral (num 8 1)) (numeral (num 12 2)))))
 
 -- All of them.
 abbrev pub Worked : Type 0
-Worked = Right def_without_name × Right axiom_without_type × Right wide_numeral × Right type_of_application × Right type_of_levels_in_name × Right type_of_sum × Right type_of_max × Right type_of_max_plus × Right lead_as_left_side × Right not_reaches_over_equality × Right not_behind_a_sum × Right arrow_behind_a_binder × Right arrow_as_an_argument × Right names_with_a_type × Right two_groups_and_an_arrow × Right where_behind_a_value × Right max_of_one_level × Right by_at_the_end × Right exact_at_the_end × Right equality_of_three × Right iff_of_three × Right braces_without_a_type × Right constructors × Right helpers_with_and_without_binders × Right a_chain × Right sides × Right terms_of_items × Right nested_dots × Right commands_without_a_word × Right a_left_out_command
+Worked = Right def_without_name_text × Right axiom_without_type_text × Right wide_numeral_text × Right bad_character_behind_a_bad_token_text × Right no_command_word_text × Right left_out_command_text × Right attribute_in_a_term_text × Right type_of_an_application_text × Right type_before_written_levels_text × Right type_of_a_sum_text × Right type_of_a_maximum_text × Right type_of_no_level_text × Right sort_of_a_bare_maximum_text × Right maximum_of_one_level_text × Right levels_in_braces_text × Right sides_text × Right arrows_and_connectives_text × Right equality_of_three_text × Right iff_of_three_text × Right lead_as_the_left_side_text × Right not_reaches_over_an_equality_text × Right not_behind_a_sum_text × Right not_stops_before_and_text × Right arrow_behind_a_binder_text × Right arrow_as_an_argument_text × Right arrow_behind_an_equality_text × Right two_groups_and_an_arrow_text × Right braces_and_an_arrow_text × Right names_with_a_type_text × Right names_that_go_on_text × Right braces_without_a_type_text × Right binders_of_fun_text × Right let_in_a_let_text × Right by_at_the_end_text × Right exact_at_the_end_text × Right items_text × Right nested_dots_text × Right where_behind_a_value_text × Right definition_without_a_type_text × Right helpers_text × Right theorem_text × Right constructors_text × Right no_constructors_text × Right axiom_with_levels_text × Right namespace_text × Right section_without_a_name_text × Right end_with_a_name_text × Right open_names_text × Right universe_names_text × Right variables_text × Right reduction_text
