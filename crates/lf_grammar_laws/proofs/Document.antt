@@ -13,16 +13,9 @@ use Rattle.lf_syntax.specs.Rows.{command_rows}
 use Rattle.lf_syntax.specs.Grammar.{grammar, Derives, BadAt, EndsEarly, Answer, IsAnswer, is_command, is_bad, is_short}
 use Rattle.lf_syntax.specs.Document.{first_deep, fault_of, end_of, IsCommand, too_deep, derived, unexpected, unfinished, inside, AreCommands, CommandsOf}
 use Rattle.lf_syntax.specs.Classes.{pieces_of}
-use Rattle.lf_grammar_laws.specs.Laws.{outcome, answer_of, OneCommand, OneDocument, NeverBad}
-use Rattle.lf_grammar_laws.proofs.Grammar.{one_answer, one_of}
+use Rattle.lf_grammar_laws.specs.Laws.{outcome, answer_of, command_for, machine_command, machine_commands, MachineDocument, OneCommand, OneDocument, NeverBad}
+use Rattle.lf_grammar_laws.proofs.Grammar.{machine_answers, one_of}
 use Rattle.lf_grammar_laws.proofs.Found.{InRows, found}
-
--- The command that an answer stands for.
-abbrev command_for : List Piece → Answer → Command
-command_for ts (is_command c) = c
-command_for ts (is_bad []) = Bad 0 Token
-command_for ts (is_bad (t ∷ more)) = Bad t.at (fault_of t.class)
-command_for ts is_short = Bad (end_of ts) End
 
 command_by : (ts : List Piece) (a : Answer) → first_deep ts ≡ None → IsAnswer ts a → IsCommand ts (command_for ts a)
 command_by ts (is_command c) e h = derived c e h
@@ -56,24 +49,37 @@ deep_for ts _ t e (derived c f d) = absurd (none_some (first_deep ts) t f e)
 deep_for ts _ t e (unexpected u more f d) = absurd (none_some (first_deep ts) t f e)
 deep_for ts _ t e (unfinished f d) = absurd (none_some (first_deep ts) t f e)
 
-is_one_by : (ts : List Piece) (o : Option Piece) → first_deep ts ≡ o → (c : Command) × IsCommand ts c × ((d : Command) → IsCommand ts d → d ≡ c)
-is_one_by ts (Some t) e = (Bad t.at Deep, too_deep t e, λ d h. deep_for ts d t e h)
-is_one_by ts None e =
-    let a = one_answer ts in
-    (command_for ts a.0, command_by ts a.0 e a.1, λ d h. let f = answer_for ts d e h in f.same ∙ ap (command_for ts) (a.2 f.answer f.is))
+-- What the machine finds, with the first token that is nested too deeply given apart.
+abbrev found_command : List Piece → Option Piece → Command
+found_command ts (Some t) = Bad t.at Deep
+found_command ts None = command_for ts (answer_of (outcome ts))
+
+answered : (ts : List Piece) → IsAnswer ts (answer_of (outcome ts))
+answered ts = (machine_answers ts (answer_of (outcome ts))).1 refl
+
+is_found : (ts : List Piece) (o : Option Piece) → first_deep ts ≡ o → IsCommand ts (found_command ts o)
+is_found ts (Some t) e = too_deep t e
+is_found ts None e = command_by ts (answer_of (outcome ts)) e (answered ts)
+
+only_found : (ts : List Piece) (o : Option Piece) → first_deep ts ≡ o → (d : Command) → IsCommand ts d → d ≡ found_command ts o
+only_found ts (Some t) e d h = deep_for ts d t e h
+only_found ts None e d h =
+    let f = answer_for ts d e h in
+    f.same ∙ ap (command_for ts) (one_of ts f.answer (answer_of (outcome ts)) f.is (answered ts))
+
+pub machine_finds : (ts : List Piece) → IsCommand ts (machine_command ts)
+machine_finds ts = is_found ts (first_deep ts) refl
 
 pub one_command : OneCommand
-one_command ts = is_one_by ts (first_deep ts) refl
+one_command ts = (machine_command ts, machine_finds ts, only_found ts (first_deep ts) refl)
 
--- The commands of the tokens, where there are at most so many.
-cut_by : (n : ℕ) (ts : List Piece) → length ts ≤ n → (cs : List Command) × AreCommands ts cs
-cut_by n [] h = ([], refl)
-cut_by zero (t ∷ ts) h = absurd (omega arith)
-cut_by (suc n) (t ∷ ts) h =
+machine_cuts : (n : ℕ) (ts : List Piece) → length ts ≤ n → AreCommands ts (machine_commands n ts)
+machine_cuts zero [] h = refl
+machine_cuts zero (t ∷ ts) h = absurd (omega arith)
+machine_cuts (suc n) [] h = refl
+machine_cuts (suc n) (t ∷ ts) h =
     let k : ℕ = prefix_len inside ts in
-    let c = one_command (t ∷ take k ts) in
-    let r : (cs : List Command) × AreCommands (drop k ts) cs = cut_by n (drop k ts) (omega (arith, length-drop k ts)) in
-    (c.0 ∷ r.0, (c.1, r.1))
+    (machine_finds (t ∷ take k ts), machine_cuts n (drop k ts) (omega (arith, length-drop k ts)))
 
 same_cut : (ts : List Piece) (cs ds : List Command) → AreCommands ts cs → AreCommands ts ds → cs ≡ ds
 same_cut ts [] [] p q = refl
@@ -83,15 +89,18 @@ same_cut [] (c ∷ cs) ds p q = absurd p
 same_cut (t ∷ ts) (c ∷ cs) [] p q = cc
 same_cut (t ∷ ts) (c ∷ cs) (d ∷ ds) p q =
     let k : ℕ = prefix_len inside ts in
-    let o = one_command (t ∷ take k ts) in
-    let e : c ≡ d = o.2 c p.0 ∙ sym (o.2 d q.0) in
+    let us : List Piece = t ∷ take k ts in
+    let e : c ≡ d = only_found us (first_deep us) refl c p.0 ∙ sym (only_found us (first_deep us) refl d q.0) in
     let f : cs ≡ ds = same_cut (drop k ts) cs ds p.1 q.1 in
     λ i. e i ∷ f i
 
+pub machine_document : MachineDocument
+machine_document bytes = machine_cuts (length (pieces_of bytes)) (pieces_of bytes) (omega arith)
+
 pub one_document : OneDocument
 one_document bytes =
-    let r : (cs : List Command) × AreCommands (pieces_of bytes) cs = cut_by (length (pieces_of bytes)) (pieces_of bytes) (omega arith) in
-    (r.0, r.1, λ ds h. same_cut (pieces_of bytes) ds r.0 h r.1)
+    let cs : List Command = machine_commands (length (pieces_of bytes)) (pieces_of bytes) in
+    (cs, machine_document bytes, λ ds h. same_cut (pieces_of bytes) ds cs h (machine_document bytes))
 
 -- What holds of all that a build gives holds of the tree of a derivation.
 abbrev Always : (g : Grammar) {R : Type 0} → (R → Type 0) → (xs : List g.S) → Takes g.Tree xs R → Type 0

@@ -1,8 +1,11 @@
 -- The laws of the grammar.
-use Rattle.std.specs.Prelude.{◌≡◌, ◌↔◌, ℕ, List, [], ◌∷◌}
+use Rattle.std.specs.Prelude.{◌≡◌, ◌↔◌, ℕ, zero, suc, List, [], ◌∷◌, length, take, drop, Option, None, Some}
+use Rattle.std.specs.List.{prefix_len}
+use Rattle.lf_syntax.specs.declared.leaf.SyntaxFault.TheVariants.{Token, End, Deep}
+use Rattle.lf_syntax.specs.Classes.{pieces_of}
 use Rattle.lf_syntax.specs.declared.leaf.SyntaxFault.{SyntaxFault}
 use Rattle.lf_syntax.specs.declared.command.Command.TheVariants.{Bad}
-use Rattle.lf_syntax.specs.Document.{IsCommand, CommandsOf}
+use Rattle.lf_syntax.specs.Document.{IsCommand, CommandsOf, first_deep, fault_of, end_of, inside}
 use Rattle.lf_syntax.specs.Piece.{Piece}
 use Rattle.lf_syntax.specs.Symbol.{command}
 use Rattle.lf_syntax.specs.declared.command.Command.{Command}
@@ -40,9 +43,31 @@ Completable = (ts : List Piece) → ((last : List Piece) → outcome ts ≡ Stuc
 abbrev pub StuckIsLocal : Type 0
 StuckIsLocal = (ts last : List Piece) → outcome ts ≡ Stuck last → BadAt ts last
 
+-- The command that an answer stands for.
+abbrev pub command_for : List Piece → Answer → Command
+command_for ts (is_command c) = c
+command_for ts (is_bad []) = Bad 0 Token
+command_for ts (is_bad (t ∷ more)) = Bad t.at (fault_of t.class)
+command_for ts is_short = Bad (end_of ts) End
+
+-- The command that the machine finds, nesting first.
+abbrev pub machine_command : List Piece → Command
+machine_command ts = elim (first_deep ts) [ Some t ↦ Bad t.at Deep | None ↦ command_for ts (answer_of (outcome ts)) ]
+
+-- The commands that it finds in at most so many tokens.
+abbrev pub machine_commands : ℕ → List Piece → List Command
+machine_commands zero ts = []
+machine_commands (suc n) [] = []
+machine_commands (suc n) (t ∷ ts) =
+    machine_command (t ∷ take (prefix_len inside ts) ts) ∷ machine_commands n (drop (prefix_len inside ts) ts)
+
 -- The tokens of a command are exactly one command, bad ones among them.
 abbrev pub OneCommand : Type 0
 OneCommand = (ts : List Piece) → (c : Command) × IsCommand ts c × ((d : Command) → IsCommand ts d → d ≡ c)
+
+-- The machine finds the commands of a text.
+abbrev pub MachineDocument : Type 0
+MachineDocument = (bytes : List ℕ) → CommandsOf bytes (machine_commands (length (pieces_of bytes)) (pieces_of bytes))
 
 -- A text has exactly one list of commands.
 abbrev pub OneDocument : Type 0

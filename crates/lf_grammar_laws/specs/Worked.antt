@@ -1,17 +1,21 @@
 -- Worked texts, each of one command: the answer for its tokens. Places are in bytes.
-use Rattle.std.specs.Prelude.{◌≡◌, ℕ, List, [], ◌∷◌, Option, Some, None, true, false, codes, drop}
+use Rattle.std.specs.Prelude.{◌≡◌, ℕ, List, [], ◌∷◌, Option, Some, None, true, false, codes, drop, ◌+◌, zero, suc}
 use Prim.Native.String.{String}
 use Rattle.lf_core.specs.declared.binder.BinderKind.TheVariants.{Explicit, Implicit}
 use Rattle.lf_syntax.specs.declared.leaf.Ident.{Ident}
 use Rattle.lf_syntax.specs.declared.leaf.Num.{Num}
 use Rattle.lf_syntax.specs.declared.leaf.Op.TheVariants.{Arrow, Or, And, Eq, Add, Sub, Mul, Mod}
-use Rattle.lf_syntax.specs.Tree.{LevelTree, level_number, level_name, level_plus, level_max, level_imax, levels_of, TermTree, ident, numeral, hole, sorry_term, type_u, sort_u, paren, no_term, some_term, app, oper, not_term, fun_term, forall_term, let_term, by_term, arrow, binders, plain, typed, implicit, terms_of as terms, binders_of as lambdas, items_of as items, rules_of as rules, block, exact, intro, apply, rfl, assumption_item, rw_item, unfold_item, have_item, induction, cases, injection, sorry_item, rule}
+use Rattle.lf_syntax.specs.Tree.{LevelTree, level_number, level_name, level_plus, level_max, level_imax, levels_of, TermTree, ident, numeral, hole, sorry_term, prop, type_u, sort_u, paren, no_term, some_term, app, oper, not_term, fun_term, forall_term, let_term, by_term, arrow, binders, plain, typed, implicit, terms_of as terms, binders_of as lambdas, items_of as items, rules_of as rules, block, exact, intro, apply, rfl, assumption_item, rw_item, unfold_item, have_item, induction, cases, injection, sorry_item, rule}
 use Rattle.lf_syntax.specs.declared.term.Binders.{Binders}
 use Rattle.lf_syntax.specs.declared.command.Decl.{Decl}
 use Rattle.lf_syntax.specs.declared.command.Helper.{Helper}
 use Rattle.lf_syntax.specs.declared.command.CtorDecl.{CtorDecl}
-use Rattle.lf_syntax.specs.declared.command.Command.TheVariants.{Axiom, Def, Theorem, Inductive, Namespace, Section, End, OpenNames, Universe, Variable, Check, Reduce}
-use Rattle.lf_syntax.specs.Piece.{Piece}
+use Rattle.lf_syntax.specs.declared.command.Command.{Command}
+use Rattle.lf_syntax.specs.declared.command.Command.TheVariants.{Axiom, Def, Theorem, Inductive, Namespace, Section, End, OpenNames, Universe, Variable, Check, Reduce, Bad}
+use Rattle.lf_syntax.specs.declared.leaf.SyntaxFault.TheVariants.{Token, Wide, Deep}
+use Rattle.lf_syntax.specs.declared.leaf.SyntaxFault.TheVariants as fault
+use Rattle.lf_syntax.specs.Document.{CommandsOf, IsCommand}
+use Rattle.lf_syntax.specs.Piece.{Piece, word, left_paren, check_word}
 use Rattle.lf_syntax.specs.Classes.{pieces_of}
 use Rattle.lf_syntax.specs.Grammar.{Answer, IsAnswer, is_command, is_bad, is_short}
 use Rattle.lf_text.specs.Words.{utf8}
@@ -204,6 +208,45 @@ variables_text = text "variable (x y : A)" (λ tokens. is_command (Variable 0 (g
 abbrev pub reduction_text : Text
 reduction_text = text "#reduce 1 % 2" (λ tokens. is_command (Reduce 0 (oper 8 Mod (numeral (num 8 1)) (numeral (num 12 2)))))
 
+-- A text, and its commands.
+pub record Document : Type 0 where
+  pub bytes : List ℕ
+  pub commands : List Command
+
+abbrev pub Has : Document → Type 0
+Has d = CommandsOf d.bytes d.commands
+
+abbrev pub bad_and_good : Document
+bad_and_good = record {
+  bytes = utf8 "def := 3\naxiom A : Prop\n";
+  commands = Bad 4 Token ∷ Axiom (decl 9 (id 15 (codes "A")) [] [] (Some (prop 19))) ∷ []
+}
+
+abbrev pub too_short : Document
+too_short = record { bytes = utf8 "axiom A"; commands = Bad 7 fault.End ∷ [] }
+
+abbrev pub too_wide : Document
+too_wide = record { bytes = utf8 "#check 340282366920938463463374607431768211456"; commands = Bad 7 Wide ∷ [] }
+
+-- `#check` and so many opening parentheses, the first of them the k-th, with their nesting numbers.
+abbrev pub parentheses : ℕ → ℕ → List Piece
+parentheses k zero = []
+parentheses k (suc n) = record { class = word left_paren; at = 7 + k; «end» = 8 + k; nesting = 1 + k } ∷ parentheses (1 + k) n
+
+abbrev pub check_of : ℕ → List Piece
+check_of n = record { class = word check_word; at = 0; «end» = 6; nesting = 0 } ∷ parentheses 0 n
+
+-- 257 are too deep at the last one; 256 aren't.
+abbrev pub TooDeep : Type 0
+TooDeep = IsCommand (check_of 257) (Bad 263 Deep)
+
+abbrev pub NotTooDeep : Type 0
+NotTooDeep = IsCommand (check_of 256) (Bad 263 fault.End)
+
+abbrev pub three_parentheses : Type 0
+three_parentheses = pieces_of (utf8 "#check (((") ≡ check_of 3
+
+
 -- All of them.
 abbrev pub Worked : Type 0
-Worked = Right def_without_name_text × Right axiom_without_type_text × Right wide_numeral_text × Right bad_character_behind_a_bad_token_text × Right no_command_word_text × Right left_out_command_text × Right attribute_in_a_term_text × Right type_of_an_application_text × Right type_before_written_levels_text × Right type_of_a_sum_text × Right type_of_a_maximum_text × Right type_of_no_level_text × Right sort_of_a_bare_maximum_text × Right maximum_of_one_level_text × Right levels_in_braces_text × Right sides_text × Right arrows_and_connectives_text × Right equality_of_three_text × Right iff_of_three_text × Right lead_as_the_left_side_text × Right not_reaches_over_an_equality_text × Right not_behind_a_sum_text × Right not_stops_before_and_text × Right arrow_behind_a_binder_text × Right arrow_as_an_argument_text × Right arrow_behind_an_equality_text × Right two_groups_and_an_arrow_text × Right braces_and_an_arrow_text × Right names_with_a_type_text × Right names_that_go_on_text × Right braces_without_a_type_text × Right binders_of_fun_text × Right let_in_a_let_text × Right by_at_the_end_text × Right exact_at_the_end_text × Right items_text × Right nested_dots_text × Right where_behind_a_value_text × Right definition_without_a_type_text × Right helpers_text × Right theorem_text × Right constructors_text × Right no_constructors_text × Right axiom_with_levels_text × Right namespace_text × Right section_without_a_name_text × Right end_with_a_name_text × Right open_names_text × Right universe_names_text × Right variables_text × Right reduction_text
+Worked = Right def_without_name_text × Right axiom_without_type_text × Right wide_numeral_text × Right bad_character_behind_a_bad_token_text × Right no_command_word_text × Right left_out_command_text × Right attribute_in_a_term_text × Right type_of_an_application_text × Right type_before_written_levels_text × Right type_of_a_sum_text × Right type_of_a_maximum_text × Right type_of_no_level_text × Right sort_of_a_bare_maximum_text × Right maximum_of_one_level_text × Right levels_in_braces_text × Right sides_text × Right arrows_and_connectives_text × Right equality_of_three_text × Right iff_of_three_text × Right lead_as_the_left_side_text × Right not_reaches_over_an_equality_text × Right not_behind_a_sum_text × Right not_stops_before_and_text × Right arrow_behind_a_binder_text × Right arrow_as_an_argument_text × Right arrow_behind_an_equality_text × Right two_groups_and_an_arrow_text × Right braces_and_an_arrow_text × Right names_with_a_type_text × Right names_that_go_on_text × Right braces_without_a_type_text × Right binders_of_fun_text × Right let_in_a_let_text × Right by_at_the_end_text × Right exact_at_the_end_text × Right items_text × Right nested_dots_text × Right where_behind_a_value_text × Right definition_without_a_type_text × Right helpers_text × Right theorem_text × Right constructors_text × Right no_constructors_text × Right axiom_with_levels_text × Right namespace_text × Right section_without_a_name_text × Right end_with_a_name_text × Right open_names_text × Right universe_names_text × Right variables_text × Right reduction_text × Has bad_and_good × Has too_short × Has too_wide × TooDeep × NotTooDeep × three_parentheses

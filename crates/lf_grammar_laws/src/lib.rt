@@ -1,7 +1,7 @@
 //! Laws of the grammar of commands: each public function's contract is one of them, and it does nothing.
 #![tactic(auto)]
 
-ghost use Rattle.lf_grammar_laws.specs.Laws.{OneAnswer, MachineAnswers, Complete, Sound, Completable, StuckIsLocal, OneCommand, OneDocument, NeverBad};
+ghost use Rattle.lf_grammar_laws.specs.Laws.{OneAnswer, MachineAnswers, Complete, Sound, Completable, StuckIsLocal, OneCommand, OneDocument, MachineDocument, NeverBad};
 ghost use Rattle.lf_grammar_laws.specs.Worked.{Worked};
 
 /// A list of tokens is a command with one tree, or bad at one place, or a beginning that ends early: exactly one of these.
@@ -55,6 +55,12 @@ pub fn one_command()
 /// Each text, by its bytes, has exactly one list of commands.
 pub fn one_document()
     ensures { OneDocument }
+{
+}
+
+/// The machine finds the commands of a text.
+pub fn machine_document()
+    ensures { MachineDocument }
 {
 }
 
