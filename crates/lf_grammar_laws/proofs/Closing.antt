@@ -1,5 +1,5 @@
 -- Tokens that finish each stack in which symbols are followed by what they ask.
-use Rattle.std.proofs.Common.{◌≡◌, ℕ, List, [], ◌∷◌, ◌++◌, Bool, true, false, not, ◌&&◌, ◌||◌, Option, Some, None, refl, sym, ap, ◌∙◌, subst, true≢false, nat_eq, eq-eqb}
+use Rattle.std.proofs.Common.{◌≡◌, ℕ, List, [], ◌∷◌, ◌++◌, Bool, true, false, ◌&&◌, Option, Some, None, refl, sym, true≢false, nat_eq, eq-eqb}
 use Rattle.lf_syntax.specs.declared.leaf.Ident.{Ident}
 use Rattle.lf_syntax.specs.declared.leaf.Op.TheVariants.{Arrow}
 use Rattle.lf_syntax.specs.Tree.{level_name}
@@ -9,7 +9,7 @@ use Rattle.lf_syntax.specs.Piece.{Word, Class, Piece, word_code}
 use Rattle.lf_syntax.specs.Symbol.{Symbol, Tree, arguments_to, any_name, any_names, arguments, arrow_token, binder, binder_end, binder_name, binder_names, block, command, ctors, def_rest, group, group_close, group_end, group_names, helper, helpers, imax_rest, implicit_end, item, lambda_binder, lambda_binders, level, level_atom, level_atoms, level_names, max_rest, more_helpers, more_items, more_level_names, more_levels, more_rules, number_token, one_part, one_parts, operators, optional_name, parameters, plus_option, rw_rule, term, token, type_option, where_option, written_levels}
 use Rattle.lf_syntax.specs.Row.{Prod, then, if_true, first_row}
 use Rattle.lf_syntax.specs.Build.{is_underscore, underscore_at}
-use Rattle.lf_syntax.specs.Rows.{rows, without, group_names_rows_by}
+use Rattle.lf_syntax.specs.Rows.{group_names_rows_by}
 use Rattle.lf_syntax.specs.Grammar.{grammar}
 use Rattle.lf_grammar_laws.specs.Follow.{Next, at_end, closer, at_colon, other, Asks, nothing_more, calm_next, no_colon, asks, allows, next_of, next, settled}
 
@@ -232,7 +232,6 @@ quiet_imax_rest x _ (colon_behind ts) = refl
 
 leave_imax_rest : (x : Ident) (ts : List Piece) → Calm true ts → Reads grammar ((imax_rest x) ∷ []) ts ts
 leave_imax_rest x ts h = left_out (level_name x) refl (quiet_imax_rest x ts h) nothing
-
 
 one_row : (p : Prod (Unit {0})) (b : Bool) → b ≡ true → (elim (if_true b p) as (λ _. Option (Prod (Unit {0}))) [ Some q ↦ Some q | None ↦ None ]) ≡ Some p
 one_row p true e = refl

@@ -1,17 +1,16 @@
 -- Each list of tokens is one command, and each text one list of commands.
-use Rattle.std.proofs.Common.{◌≡◌, ℕ, zero, suc, ◌+◌, ◌≤◌, ◌<◌, List, [], ◌∷◌, length, take, drop, Option, Some, None, refl, sym, ap, ◌∙◌, subst, arith, length-drop}
+use Rattle.std.proofs.Common.{◌≡◌, ℕ, zero, suc, ◌≤◌, List, [], ◌∷◌, length, take, drop, Option, Some, None, refl, sym, ap, ◌∙◌, subst, arith, length-drop}
 use Rattle.std.specs.List.{prefix_len}
-use Rattle.lf_syntax.specs.declared.leaf.SyntaxFault.TheVariants.{Token, End, Deep}
+use Rattle.lf_syntax.specs.declared.leaf.SyntaxFault.TheVariants.{Deep}
 use Rattle.lf_syntax.specs.declared.command.Command.{Command}
-use Rattle.lf_syntax.specs.declared.command.Command.TheVariants as variant
 use Rattle.lf_syntax.specs.declared.command.Command.TheVariants.{Bad}
-use Rattle.lf_syntax.specs.Predictive.{Grammar, Takes, Production, Reads, nothing, left_out, taken, tree}
+use Rattle.lf_syntax.specs.Predictive.{Grammar, Takes, Reads, nothing, left_out, taken, tree}
 use Rattle.lf_syntax.specs.Piece.{Piece}
 use Rattle.lf_syntax.specs.Symbol.{command}
 use Rattle.lf_syntax.specs.Row.{Prod}
 use Rattle.lf_syntax.specs.Rows.{command_rows}
-use Rattle.lf_syntax.specs.Grammar.{grammar, Derives, BadAt, EndsEarly, Answer, IsAnswer, is_command, is_bad, is_short}
-use Rattle.lf_syntax.specs.Document.{first_deep, fault_of, end_of, IsCommand, too_deep, derived, unexpected, unfinished, inside, AreCommands, CommandsOf}
+use Rattle.lf_syntax.specs.Grammar.{grammar, Answer, IsAnswer, is_command, is_bad, is_short}
+use Rattle.lf_syntax.specs.Document.{first_deep, IsCommand, too_deep, derived, unexpected, unfinished, inside, AreCommands}
 use Rattle.lf_syntax.specs.Classes.{pieces_of}
 use Rattle.lf_grammar_laws.specs.Laws.{outcome, answer_of, command_for, machine_command, machine_commands, MachineDocument, OneCommand, OneDocument, NeverBad}
 use Rattle.lf_grammar_laws.proofs.Grammar.{machine_answers, one_of}
@@ -118,8 +117,26 @@ IsGood _ = Unit {0}
 
 commands_good : InRows (λ (p : Prod Command). Always grammar IsGood p.body p.build) command_rows
 commands_good = (
-  λ at x ls bs u ty. tt, (λ at x ls bs d. tt, (λ at x ls bs u ty v e hs. tt, (λ at x ls bs ty u cs. tt, (λ at x. tt, (λ at x. tt, (λ at x. tt,
-  (λ at x xs. tt, (λ at x xs. tt, (λ at b bs. tt, (λ at t. tt, (λ at t. tt, tt)))))))))))
+  λ at x ls bs u ty. tt,
+  (
+    λ at x ls bs d. tt,
+    (
+      λ at x ls bs u ty v e hs. tt,
+      (
+        λ at x ls bs ty u cs. tt,
+        (
+          λ at x. tt,
+          (
+            λ at x. tt,
+            (
+              λ at x. tt,
+              (λ at x xs. tt, (λ at x xs. tt, (λ at b bs. tt, (λ at t. tt, (λ at t. tt, tt))))),
+            ),
+          ),
+        ),
+      ),
+    ),
+  ),
 )
 
 reads_good : (ts rest : List Piece) (d : Reads grammar (command ∷ []) ts rest) → IsGood (tree d (λ c. c))

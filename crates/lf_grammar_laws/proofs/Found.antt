@@ -3,7 +3,7 @@ use Rattle.std.proofs.Common.{◌≡◌, ℕ, List, [], ◌∷◌, Bool, true, f
 use Rattle.lf_syntax.specs.declared.leaf.Ident.{Ident}
 use Rattle.lf_syntax.specs.declared.leaf.Num.{Num}
 use Rattle.lf_syntax.specs.declared.leaf.Op.{Op}
-use Rattle.lf_syntax.specs.Piece.{Class, word, name, number, operator, wrong}
+use Rattle.lf_syntax.specs.Piece.{Class, word, name, number, operator}
 use Rattle.lf_syntax.specs.Row.{Row, Prod, on_word, on_name, on_one_part, on_spelling, on_number, on_operator, try, first_row, if_true}
 
 abbrev pub InRow : {V : Type 0} → (Prod V → Type 0) → Row V → Type 0

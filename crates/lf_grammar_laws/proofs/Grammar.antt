@@ -1,7 +1,6 @@
 -- The laws for the grammar of commands.
-use Rattle.std.proofs.Common.{◌≡◌, ℕ, List, [], ◌∷◌, ◌++◌, Bool, true, false, not, ◌&&◌, ◌||◌, Option, Some, None, refl, sym, ap, ◌∙◌, subst, true≢false, append_assoc, append-nil}
-use Rattle.lf_syntax.specs.Predictive as predictive
-use Rattle.lf_syntax.specs.Predictive.{Grammar, Reads}
+use Rattle.std.proofs.Common.{◌≡◌, List, [], ◌∷◌, ◌++◌, Bool, true, false, not, ◌&&◌, ◌||◌, Some, refl, sym, ap, ◌∙◌, subst, true≢false, append_assoc, append-nil}
+use Rattle.lf_syntax.specs.Predictive.{Reads}
 use Rattle.lf_syntax.specs.Piece.{Piece}
 use Rattle.lf_syntax.specs.Symbol.{Symbol, Tree, command}
 use Rattle.lf_syntax.specs.declared.command.Command.{Command}

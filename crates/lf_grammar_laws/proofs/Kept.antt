@@ -1,12 +1,12 @@
 -- A step of the machine keeps its stack one that can be finished.
-use Rattle.std.proofs.Common.{◌≡◌, ℕ, List, [], ◌∷◌, ◌++◌, Bool, true, false, not, ◌&&◌, ◌||◌, Option, Some, None, refl, sym, ap, ◌∙◌, subst, true≢false}
+use Rattle.std.proofs.Common.{◌≡◌, ℕ, List, Bool, true, false, Some, refl}
 use Rattle.lf_syntax.specs.declared.leaf.Ident.{Ident}
 use Rattle.lf_syntax.specs.Piece.{Class}
-use Rattle.lf_syntax.specs.Symbol.{Symbol, Tree, Spine, any_name, any_names, arguments, arrow_token, binder, binder_end, binder_name, binder_names, block, command, ctors, def_rest, group, group_close, group_end, group_names, helper, helpers, imax_rest, implicit_end, item, lambda_binder, lambda_binders, level, level_atom, level_atoms, level_names, max_rest, more_helpers, more_items, more_level_names, more_levels, more_rules, number_token, one_part, one_parts, operators, optional_name, parameters, plus_option, rw_rule, term, token, type_option, where_option, written_levels}
+use Rattle.lf_syntax.specs.Symbol.{Symbol, Tree, any_name, any_names, arguments, arrow_token, binder, binder_end, binder_name, binder_names, block, command, ctors, def_rest, group, group_close, group_end, group_names, helper, helpers, imax_rest, implicit_end, item, lambda_binder, lambda_binders, level, level_atom, level_atoms, level_names, max_rest, more_helpers, more_items, more_level_names, more_levels, more_rules, number_token, one_part, one_parts, operators, optional_name, parameters, plus_option, rw_rule, term, token, type_option, where_option, written_levels}
 use Rattle.lf_syntax.specs.Row.{Row, Prod, first_row}
-use Rattle.lf_syntax.specs.Build.{is_underscore, group_of, names_spine}
-use Rattle.lf_syntax.specs.Rows.{rows, group_names_rows_by, name_levels_rows, argument_rows, operator_rows, group_end_rows}
-use Rattle.lf_grammar_laws.specs.Follow.{Next, at_end, closer, at_colon, other, Asks, asks, allows, next_of, next, settled, serves}
+use Rattle.lf_syntax.specs.Build.{is_underscore}
+use Rattle.lf_syntax.specs.Rows.{rows, group_names_rows_by}
+use Rattle.lf_grammar_laws.specs.Follow.{Asks, asks, serves}
 use Rattle.lf_grammar_laws.proofs.Found.{InRows, found}
 
 abbrev pub AllServe : {V : Type 0} → Asks → List (Row V) → Type 0

@@ -1,7 +1,7 @@
 -- The machine gives the tree of each derivation, and nothing else.
-use Rattle.std.proofs.Common.{◌≡◌, ℕ, List, [], ◌∷◌, ◌++◌, Option, Some, None, refl, sym, ap, ◌∙◌, subst}
+use Rattle.std.proofs.Common.{◌≡◌, List, [], ◌∷◌, ◌++◌, Option, Some, None, refl, ap, ◌∙◌}
 use Rattle.lf_syntax.specs.Predictive.{Takes, join, Production, Grammar, Quiet, Reads, nothing, left_out, taken, tree}
-use Rattle.lf_grammar_laws.specs.Machine.{Stack, step, end, Outcome, Done, Stuck, Short, ended, run}
+use Rattle.lf_grammar_laws.specs.Machine.{Stack, step, end, Outcome, Done, Stuck, ended, run}
 
 abbrev then : {R : Type 0} (g : Grammar) (t : g.T) (ts : List g.T) → Option (Stack g R) → Outcome g.T R
 then g t ts o = elim o [ None ↦ Stuck (t ∷ ts) | Some s ↦ run g ts s.symbols s.gives ]
@@ -14,8 +14,8 @@ skip_step : {R : Type 0} (g : Grammar) (x : g.S) (xs : List g.S) (k : Takes g.Tr
     g.without x ≡ Some v → g.begin x t ≡ None → step g (x ∷ xs) k t ≡ step g xs (k v) t
 skip_step {R} g x xs k v t e q =
     ap (λ (o : Option (Production g.S g.Tree (g.Tree x))). elim o as (λ _. Option (Stack g R)) [
-      Some p ↦ Some (record { symbols = p.body ++ xs; gives = join g.Tree R p.body xs p.build k })
-    | None ↦ elim (g.without x) [ None ↦ None | Some w ↦ step g xs (k w) t ]
+      | Some p ↦ Some (record { symbols = p.body ++ xs; gives = join g.Tree R p.body xs p.build k })
+      | None ↦ elim (g.without x) [ None ↦ None | Some w ↦ step g xs (k w) t ]
     ]) q ∙
     ap (λ (o : Option (g.Tree x)). elim o as (λ _. Option (Stack g R)) [ None ↦ None | Some w ↦ step g xs (k w) t ]) e
 
@@ -28,8 +28,8 @@ pub take_step : {R : Type 0} (g : Grammar) (x : g.S) (xs : List g.S) (k : Takes 
     g.begin x t ≡ Some p → step g (x ∷ xs) k t ≡ Some (record { symbols = p.body ++ xs; gives = join g.Tree R p.body xs p.build k })
 take_step {R} g x xs k t p e =
     ap (λ (o : Option (Production g.S g.Tree (g.Tree x))). elim o as (λ _. Option (Stack g R)) [
-      Some q ↦ Some (record { symbols = q.body ++ xs; gives = join g.Tree R q.body xs q.build k })
-    | None ↦ elim (g.without x) [ None ↦ None | Some w ↦ step g xs (k w) t ]
+      | Some q ↦ Some (record { symbols = q.body ++ xs; gives = join g.Tree R q.body xs q.build k })
+      | None ↦ elim (g.without x) [ None ↦ None | Some w ↦ step g xs (k w) t ]
     ]) e
 
 -- What a derivation reads, the machine reads, whatever is below on the stack.
@@ -88,10 +88,11 @@ sound_step {R} g (x ∷ xs) k t ts r ih e = go (g.begin x t) refl e
         ((v : g.Tree x) → then g t ts (step g xs (k v) t) ≡ Done r → Gives g xs (k v) (t ∷ ts) r) → Gives g (x ∷ xs) k (t ∷ ts) r
     skips q None h e ihs = cc
     skips q (Some v) h e ihs = let d = ihs v e in record { reads = left_out v h q d.reads; same = d.same }
+
     go : (o : Option (Production g.S g.Tree (g.Tree x))) → g.begin x t ≡ o →
         then g t ts (elim o as (λ _. Option (Stack g R)) [
-          Some p ↦ Some (record { symbols = p.body ++ xs; gives = join g.Tree R p.body xs p.build k })
-        | None ↦ elim (g.without x) [ None ↦ None | Some v ↦ step g xs (k v) t ]
+          | Some p ↦ Some (record { symbols = p.body ++ xs; gives = join g.Tree R p.body xs p.build k })
+          | None ↦ elim (g.without x) [ None ↦ None | Some v ↦ step g xs (k v) t ]
         ]) ≡ Done r →
         ((v : g.Tree x) → then g t ts (step g xs (k v) t) ≡ Done r → Gives g xs (k v) (t ∷ ts) r) → Gives g (x ∷ xs) k (t ∷ ts) r
     go (Some p) h e ihs =

@@ -1,6 +1,6 @@
 -- Where each stack can be finished, the machine is stuck exactly at the first token that doesn't belong.
-use Rattle.std.proofs.Common.{◌≡◌, ℕ, List, [], ◌∷◌, ◌++◌, Option, Some, None, refl, sym, ap, ◌∙◌, subst, append_assoc, append-nil}
-use Rattle.lf_syntax.specs.Predictive.{Takes, join, Production, Grammar, Quiet, Reads, nothing, left_out, taken, tree, Derives, Begins, BadAt, EndsEarly}
+use Rattle.std.proofs.Common.{◌≡◌, List, [], ◌∷◌, ◌++◌, Option, Some, None, refl, sym, ap, ◌∙◌, append_assoc}
+use Rattle.lf_syntax.specs.Predictive.{Takes, join, Production, Grammar, Reads, nothing, left_out, taken, tree, Derives, Begins, BadAt, EndsEarly}
 use Rattle.lf_grammar_laws.specs.Machine.{Stack, step, end, Outcome, Done, Stuck, Short, ended, run}
 use Rattle.lf_grammar_laws.proofs.Predict.{complete, skip, take_step, sound, Gives}
 
@@ -25,10 +25,11 @@ step_fine R g v (x ∷ xs) k t h = go (g.begin x t) refl (λ w. step_fine R g v 
     skips : (o : Option (g.Tree x)) → ((w : g.Tree x) → Fine g v R (step g xs (k w) t)) → Fine g v R (elim o as (λ _. Option (Stack g R)) [ None ↦ None | Some w ↦ step g xs (k w) t ])
     skips None ih = tt
     skips (Some w) ih = ih w
+
     go : (o : Option (Production g.S g.Tree (g.Tree x))) → g.begin x t ≡ o → ((w : g.Tree x) → Fine g v R (step g xs (k w) t)) →
         Fine g v R (elim o as (λ _. Option (Stack g R)) [
-          Some p ↦ Some (record { symbols = p.body ++ xs; gives = join g.Tree R p.body xs p.build k })
-        | None ↦ elim (g.without x) [ None ↦ None | Some w ↦ step g xs (k w) t ]
+          | Some p ↦ Some (record { symbols = p.body ++ xs; gives = join g.Tree R p.body xs p.build k })
+          | None ↦ elim (g.without x) [ None ↦ None | Some w ↦ step g xs (k w) t ]
         ])
     go (Some p) e ih = v.push x xs t p h e
     go None e ih = skips (g.without x) ih

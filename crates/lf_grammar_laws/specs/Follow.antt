@@ -1,9 +1,7 @@
 -- What may follow each symbol on the machine's stack, so that the stack can be finished.
-use Rattle.std.proofs.Common.{◌≡◌, ℕ, List, [], ◌∷◌, ◌++◌, Bool, true, false, not, ◌&&◌, ◌||◌, Option, Some, None}
-use Rattle.lf_syntax.specs.declared.leaf.Ident.{Ident}
+use Rattle.std.proofs.Common.{List, [], ◌∷◌, Bool, true, false, not, ◌&&◌, ◌||◌}
 use Rattle.lf_syntax.specs.Piece.{Word, axiom_word, def_word, theorem_word, inductive_word, namespace_word, section_word, end_word, open_word, universe_word, variable_word, check_word, reduce_word, left_out_word, fun_word, forall_word, let_word, by_word, where_word, prop_word, type_word, sort_word, sorry_word, left_paren, right_paren, left_brace, right_brace, left_bracket, right_bracket, colon, assign, comma, semicolon, fat_arrow, at_sign, level_brace, dot, bar, not_sign, back_arrow, underscore, layout_open, layout_sep, layout_close}
-use Rattle.lf_syntax.specs.Symbol.{Symbol, Tree, any_name, any_names, arguments, arrow_token, binder, binder_end, binder_name, binder_names, block, command, ctors, def_rest, group, group_close, group_end, group_names, helper, helpers, imax_rest, implicit_end, item, lambda_binder, lambda_binders, level, level_atom, level_atoms, level_names, max_rest, more_helpers, more_items, more_level_names, more_levels, more_rules, number_token, one_part, one_parts, operators, optional_name, parameters, plus_option, rw_rule, term, token, type_option, where_option, written_levels}
-use Rattle.lf_syntax.specs.Rows.{without}
+use Rattle.lf_syntax.specs.Symbol.{Symbol, any_name, any_names, arguments, arrow_token, binder, binder_end, binder_name, binder_names, block, command, ctors, def_rest, group, group_close, group_end, group_names, helper, helpers, imax_rest, implicit_end, item, lambda_binder, lambda_binders, level, level_atom, level_atoms, level_names, max_rest, more_helpers, more_items, more_level_names, more_levels, more_rules, number_token, one_part, one_parts, operators, optional_name, parameters, plus_option, rw_rule, term, token, type_option, where_option, written_levels}
 
 -- What stands first among the tokens that finish a stack: nothing, a token that nothing optional begins with, a colon, another.
 pub data Next : Type 0 where

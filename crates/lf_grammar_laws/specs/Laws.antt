@@ -1,5 +1,5 @@
 -- The laws of the grammar.
-use Rattle.std.specs.Prelude.{◌≡◌, ◌↔◌, ℕ, zero, suc, List, [], ◌∷◌, length, take, drop, Option, None, Some}
+use Rattle.std.specs.Prelude.{◌≡◌, ◌↔◌, ℕ, zero, suc, List, [], ◌∷◌, length, take, drop, None, Some}
 use Rattle.std.specs.List.{prefix_len}
 use Rattle.lf_syntax.specs.declared.leaf.SyntaxFault.TheVariants.{Token, End, Deep}
 use Rattle.lf_syntax.specs.Classes.{pieces_of}
@@ -9,7 +9,7 @@ use Rattle.lf_syntax.specs.Document.{IsCommand, CommandsOf, first_deep, fault_of
 use Rattle.lf_syntax.specs.Piece.{Piece}
 use Rattle.lf_syntax.specs.Symbol.{command}
 use Rattle.lf_syntax.specs.declared.command.Command.{Command}
-use Rattle.lf_syntax.specs.Grammar.{grammar, Derives, Begins, BadAt, EndsEarly, Answer, IsAnswer, is_command, is_bad, is_short}
+use Rattle.lf_syntax.specs.Grammar.{grammar, Derives, Begins, BadAt, Answer, IsAnswer, is_command, is_bad, is_short}
 use Rattle.lf_grammar_laws.specs.Machine.{Outcome, Done, Stuck, Short, run}
 
 -- Where the machine ends that begins with the symbol of commands alone.

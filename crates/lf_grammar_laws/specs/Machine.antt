@@ -1,6 +1,6 @@
 -- The predictive machine: a stack of symbols, and what their trees give. It takes one token a step.
-use Rattle.std.specs.Prelude.{◌≡◌, ℕ, List, [], ◌∷◌, ◌++◌, length, Option, None, Some}
-use Rattle.lf_syntax.specs.Predictive.{Takes, Production, Grammar, join}
+use Rattle.std.specs.Prelude.{List, [], ◌∷◌, ◌++◌, Option, None, Some}
+use Rattle.lf_syntax.specs.Predictive.{Takes, Grammar, join}
 
 pub record Stack (g : Grammar) (R : Type 0) : Type 0 where
   pub symbols : List g.S
@@ -10,9 +10,9 @@ pub record Stack (g : Grammar) (R : Type 0) : Type 0 where
 abbrev pub step : {R : Type 0} (g : Grammar) (xs : List g.S) → Takes g.Tree xs R → g.T → Option (Stack g R)
 step {R} g [] k t = None
 step {R} g (x ∷ xs) k t = elim (g.begin x t) [
-    Some p ↦ Some (record { symbols = p.body ++ xs; gives = join g.Tree R p.body xs p.build k })
+  | Some p ↦ Some (record { symbols = p.body ++ xs; gives = join g.Tree R p.body xs p.build k })
   | None ↦ elim (g.without x) [ None ↦ None | Some v ↦ step g xs (k v) t ]
-  ]
+]
 
 -- What the trees give, if the tokens end here.
 abbrev pub end : {R : Type 0} (g : Grammar) (xs : List g.S) → Takes g.Tree xs R → Option R

@@ -5,7 +5,7 @@ use Rattle.lf_core.specs.declared.binder.BinderKind.TheVariants.{Explicit, Impli
 use Rattle.lf_syntax.specs.declared.leaf.Ident.{Ident}
 use Rattle.lf_syntax.specs.declared.leaf.Num.{Num}
 use Rattle.lf_syntax.specs.declared.leaf.Op.TheVariants.{Arrow, Or, And, Eq, Add, Sub, Mul, Mod}
-use Rattle.lf_syntax.specs.Tree.{LevelTree, level_number, level_name, level_plus, level_max, level_imax, levels_of, TermTree, ident, numeral, hole, sorry_term, prop, type_u, sort_u, paren, no_term, some_term, app, oper, not_term, fun_term, forall_term, let_term, by_term, arrow, binders, plain, typed, implicit, terms_of as terms, binders_of as lambdas, items_of as items, rules_of as rules, block, exact, intro, apply, rfl, assumption_item, rw_item, unfold_item, have_item, induction, cases, injection, sorry_item, rule}
+use Rattle.lf_syntax.specs.Tree.{level_number, level_name, level_plus, level_max, level_imax, levels_of, TermTree, ident, numeral, hole, sorry_term, prop, type_u, sort_u, paren, no_term, some_term, app, oper, not_term, fun_term, forall_term, let_term, by_term, arrow, binders, plain, typed, implicit, terms_of as terms, binders_of as lambdas, items_of as items, rules_of as rules, block, exact, intro, apply, rfl, assumption_item, rw_item, unfold_item, have_item, induction, cases, injection, sorry_item, rule}
 use Rattle.lf_syntax.specs.declared.term.Binders.{Binders}
 use Rattle.lf_syntax.specs.declared.command.Decl.{Decl}
 use Rattle.lf_syntax.specs.declared.command.Helper.{Helper}
@@ -219,7 +219,7 @@ Has d = CommandsOf d.bytes d.commands
 abbrev pub bad_and_good : Document
 bad_and_good = record {
   bytes = utf8 "def := 3\naxiom A : Prop\n";
-  commands = Bad 4 Token ∷ Axiom (decl 9 (id 15 (codes "A")) [] [] (Some (prop 19))) ∷ []
+  commands = Bad 4 Token ∷ Axiom (decl 9 (id 15 (codes "A")) [] [] (Some (prop 19))) ∷ [];
 }
 
 abbrev pub too_short : Document
@@ -245,7 +245,6 @@ NotTooDeep = IsCommand (check_of 256) (Bad 263 fault.End)
 
 abbrev pub three_parentheses : Type 0
 three_parentheses = pieces_of (utf8 "#check (((") ≡ check_of 3
-
 
 -- All of them.
 abbrev pub Worked : Type 0

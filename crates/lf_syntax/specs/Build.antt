@@ -1,11 +1,10 @@
 -- Trees out of their parts.
-use Rattle.std.specs.Prelude.{ℕ, Bool, true, false, ◌&&◌, List, [], ◌∷◌, ◌++◌, map, Option, None, Some, nat_eq, codes, bytes_eq}
+use Rattle.std.specs.Prelude.{ℕ, Bool, true, false, List, [], ◌∷◌, ◌++◌, map, Option, None, Some, nat_eq, codes, bytes_eq}
 use Rattle.lf_core.specs.Term.{Path}
 use Rattle.lf_syntax.specs.declared.leaf.Ident.{Ident}
-use Rattle.lf_syntax.specs.declared.leaf.Num.{Num}
 use Rattle.lf_syntax.specs.declared.leaf.Op.{Op}
 use Rattle.lf_syntax.specs.declared.leaf.Op.TheVariants.{Add}
-use Rattle.lf_syntax.specs.Tree.{LevelTree, level_number, level_name, level_plus, level_max, level_imax, levels_of, TermTree, ident, numeral, hole, sorry_term, prop, type_u, sort_u, paren, app, oper, not_term, fun_term, forall_term, let_term, by_term, arrow, TermOption, no_term, some_term, TermTrees, end_terms, term_and, terms_of, option_of, place, BindersTree, binders}
+use Rattle.lf_syntax.specs.Tree.{LevelTree, level_number, level_name, level_plus, level_max, level_imax, levels_of, TermTree, ident, numeral, hole, paren, app, oper, arrow, no_term, some_term, TermTrees, end_terms, term_and, terms_of, option_of, place, binders}
 use Rattle.lf_syntax.specs.Symbol.{Spine, GroupEnd, BinderEnd, arrow_to, arguments_to}
 use Rattle.lf_core.specs.declared.binder.BinderKind.TheVariants.{Explicit}
 
@@ -86,9 +85,9 @@ imax_level at _ = None
 -- `max` or `imax` of levels, by the name of the head.
 abbrev pub applied_level : ℕ → Option Ident → Option (List LevelTree) → Option LevelTree
 applied_level at (Some x) (Some ls) = elim (is_named (codes "max") x.name) [
-    true ↦ max_level at ls
+  | true ↦ max_level at ls
   | false ↦ elim (is_named (codes "imax") x.name) [ true ↦ imax_level at ls | false ↦ None ]
-  ]
+]
 applied_level at x ls = None
 
 abbrev pub level_and_more : Option LevelTree → Option (List LevelTree) → Option (List LevelTree)

@@ -1,5 +1,5 @@
 -- The classes of a text's tokens.
-use Rattle.std.specs.Prelude.{ℕ, Bool, true, false, List, [], ◌∷◌, map, nat_eq, bytes_eq, if◌then◌else◌, ◌+◌}
+use Rattle.std.specs.Prelude.{ℕ, true, false, List, [], ◌∷◌, nat_eq, bytes_eq, if◌then◌else◌, ◌+◌}
 use Rattle.lf_core.specs.Term.{Path}
 use Rattle.lf_syntax.specs.declared.leaf.Op.TheVariants.{Iff, Arrow, Or, And, Eq, Ne, Add, Sub, Mul, Div, Mod}
 use Rattle.lf_syntax.specs.declared.leaf.SyntaxFault.TheVariants.{Char, Comment, Numeral, Wide}

@@ -1,11 +1,10 @@
 -- Codes by which trees are told apart: a number for the form, then its parts; and back.
-use Rattle.std.specs.Prelude.{ℕ, zero, suc, Bool, true, false, List, [], ◌∷◌, Option, None, Some, ◌≡◌, refl}
+use Rattle.std.specs.Prelude.{zero, suc, Bool, true, false, List, [], ◌∷◌, Option, None, Some, ◌≡◌, refl}
 use Rattle.std.proofs.Common.{ap, sym, ◌∙◌}
 use Rattle.std.specs.Coded.{Coded}
 use base.Stored.{Gv, gnil, gnum, gcons}
-use Rattle.lf_core.specs.Term.{Path}
 use Rattle.lf_core.specs.declared.binder.BinderKind.{BinderKind}
-use Rattle.lf_core.specs.declared.binder.BinderKind.TheVariants.{Explicit, Implicit}
+use Rattle.lf_core.specs.declared.binder.BinderKind.TheVariants.{Explicit}
 use Rattle.lf_syntax.specs.declared.leaf.Ident.{Ident}
 use Rattle.lf_syntax.specs.declared.leaf.Num.{Num}
 use Rattle.lf_syntax.specs.declared.leaf.Op.{Op}

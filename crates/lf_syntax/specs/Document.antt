@@ -5,7 +5,7 @@ use Rattle.lf_syntax.specs.declared.leaf.SyntaxFault.{SyntaxFault}
 use Rattle.lf_syntax.specs.declared.leaf.SyntaxFault.TheVariants.{Token, End, Deep}
 use Rattle.lf_syntax.specs.declared.command.Command.{Command}
 use Rattle.lf_syntax.specs.declared.command.Command.TheVariants.{Bad}
-use Rattle.lf_syntax.specs.Piece.{Class, word, name, number, operator, wrong, Piece, begins_command}
+use Rattle.lf_syntax.specs.Piece.{Class, wrong, Piece, begins_command}
 use Rattle.lf_syntax.specs.Grammar.{Derives, BadAt, EndsEarly}
 use Rattle.lf_syntax.specs.Classes.{pieces_of}
 

@@ -1,5 +1,5 @@
 -- Each part of a tree has fewer nodes.
-use Rattle.std.specs.Prelude.{ℕ, ◌+◌, ◌≤◌, List, [], ◌∷◌, max}
+use Rattle.std.specs.Prelude.{◌+◌, ◌≤◌, List, [], ◌∷◌}
 use Rattle.std.proofs.Common.{arith}
 use Rattle.std.specs.Arc.{arc_value}
 use denote.Param.Weighed.{most}

@@ -1,5 +1,5 @@
 -- The grammar of commands, and what the tokens of a command are.
-use Rattle.std.specs.Prelude.{ℕ, List, [], ◌∷◌, Option, Some, None}
+use Rattle.std.specs.Prelude.{List}
 use Rattle.lf_syntax.specs.Predictive.{Grammar}
 use Rattle.lf_syntax.specs.Predictive as predictive
 use Rattle.lf_syntax.specs.Piece.{Piece}

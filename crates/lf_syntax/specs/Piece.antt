@@ -1,5 +1,5 @@
 -- The tokens of a command as the grammar sees them.
-use Rattle.std.specs.Prelude.{ℕ, Bool, true, false, List, [], ◌∷◌}
+use Rattle.std.specs.Prelude.{ℕ, Bool, true, false}
 use Rattle.lf_core.specs.Term.{Path}
 use Rattle.lf_syntax.specs.declared.leaf.Op.{Op}
 use Rattle.lf_syntax.specs.declared.leaf.SyntaxFault.{SyntaxFault}

@@ -1,6 +1,6 @@
 -- Grammars in which one token decides how to go on, and their derivations.
 -- Aho, Lam, Sethi, Ullman, "Compilers", 4.4 and 5.1: predictive grammars; trees by synthesized attributes.
-use Rattle.std.specs.Prelude.{◌≡◌, ℕ, List, [], ◌∷◌, ◌++◌, length, Option, None, Some}
+use Rattle.std.specs.Prelude.{◌≡◌, List, [], ◌∷◌, ◌++◌, Option, None, Some}
 
 -- What takes one tree for each of these symbols and gives an R.
 abbrev pub Takes : {S : Type 0} → (S → Type 0) → List S → Type 0 → Type 0

@@ -4,7 +4,7 @@ use Rattle.lf_syntax.specs.declared.leaf.Ident.{Ident}
 use Rattle.lf_syntax.specs.declared.leaf.Num.{Num}
 use Rattle.lf_syntax.specs.declared.leaf.Op.{Op}
 use Rattle.lf_syntax.specs.Predictive.{Takes, join, Production}
-use Rattle.lf_syntax.specs.Piece.{Word, Spelling, several, word_code, spelling_code, Class, word, name, number, operator, wrong, Piece}
+use Rattle.lf_syntax.specs.Piece.{Word, Spelling, several, word_code, spelling_code, Class, word, name, number, operator}
 use Rattle.lf_syntax.specs.Symbol.{Symbol, Tree}
 
 abbrev pub Prod : Type 0 → Type 0

@@ -5,8 +5,7 @@ use Rattle.lf_core.specs.declared.binder.BinderKind.TheVariants.{Explicit, Impli
 use Rattle.lf_syntax.specs.declared.leaf.Ident.{Ident}
 use Rattle.lf_syntax.specs.declared.leaf.Num.{Num}
 use Rattle.lf_syntax.specs.declared.leaf.Op.{Op}
-use Rattle.lf_syntax.specs.declared.leaf.Op.TheVariants.{Add}
-use Rattle.lf_syntax.specs.Tree.{LevelTree, level_number, level_name, level_plus, level_max, level_imax, levels_of, TermTree, ident, numeral, hole, sorry_term, prop, type_u, sort_u, paren, not_term, fun_term, forall_term, let_term, by_term, arrow, option_of, binders_of, items_of, rules_of, place, BindersTree, binders, LBinderTree, typed, plain, implicit, ItemTree, block, exact, intro, apply, rfl, assumption_item, rw_item, unfold_item, have_item, induction, cases, injection, sorry_item, RuleTree, rule}
+use Rattle.lf_syntax.specs.Tree.{LevelTree, level_number, level_name, level_plus, level_max, level_imax, levels_of, TermTree, ident, numeral, hole, sorry_term, prop, type_u, sort_u, paren, not_term, fun_term, forall_term, let_term, by_term, arrow, option_of, binders_of, items_of, rules_of, place, binders, LBinderTree, typed, plain, implicit, ItemTree, block, exact, intro, apply, rfl, assumption_item, rw_item, unfold_item, have_item, induction, cases, injection, sorry_item, RuleTree, rule}
 use Rattle.lf_syntax.specs.declared.term.Binders.{Binders}
 use Rattle.lf_syntax.specs.declared.command.Decl.{Decl}
 use Rattle.lf_syntax.specs.declared.command.Helper.{Helper}
@@ -18,8 +17,8 @@ use Rattle.lf_syntax.specs.Piece.{Word}
 use Rattle.lf_syntax.specs.Levels.{op_level, right_of, takes, is_arrow, is_add, operand_level, not_level}
 use Rattle.lf_syntax.specs.Symbol as symbol
 use Rattle.lf_syntax.specs.Symbol.{Symbol, Tree, Spine, GroupEnd, BinderEnd, arrow_to, arguments_to, DefRest, term, token, arrow_token, number_token, any_name, one_part, binder_name, optional_name, any_names, one_parts, binder_names, level_names, more_level_names, binder, parameters, lambda_binder, lambda_binders, implicit_end, def_rest, type_option, where_option, ctors, helpers, helper, more_helpers, arguments, operators, group, group_names, group_end, group_close, binder_end, written_levels, more_levels, level, plus_option, level_atom, level_atoms, max_rest, imax_rest, more_items, item, rw_rule, more_rules}
-use Rattle.lf_syntax.specs.Row.{Row, Prod, then, on_word, on_name, on_one_part, on_spelling, on_number, on_operator, begins_as}
-use Rattle.lf_syntax.specs.Build.{with_arguments, applied, chain, is_underscore, underscore_at, name_term, spine_of, names_spine, group_of, close_of, sort_spine}
+use Rattle.lf_syntax.specs.Row.{Row, then, on_word, on_name, on_one_part, on_spelling, on_number, on_operator, begins_as}
+use Rattle.lf_syntax.specs.Build.{with_arguments, applied, chain, is_underscore, underscore_at, names_spine, group_of, close_of, sort_spine}
 
 -- Names.
 
@@ -37,9 +36,9 @@ binders_at at kind xs ty = record { at = at; kind = kind; names = xs; ty = ty }
 abbrev pub binder_rows : List (Row Binders)
 binder_rows =
     on_word piece.left_paren (λ at. then (binder_name ∷ binder_names ∷ token piece.colon ∷ term 0 ∷ token piece.right_paren ∷ [])
-        (λ x xs _ ty _. binders_at at Explicit (x ∷ xs) ty)) ∷
+    (λ x xs _ ty _. binders_at at Explicit (x ∷ xs) ty)) ∷
     on_word piece.left_brace (λ at. then (binder_name ∷ binder_names ∷ token piece.colon ∷ term 0 ∷ token piece.right_brace ∷ [])
-        (λ x xs _ ty _. binders_at at Implicit (x ∷ xs) ty)) ∷ []
+    (λ x xs _ ty _. binders_at at Implicit (x ∷ xs) ty)) ∷ []
 
 abbrev pub implicit_binder : ℕ → List Ident → Option TermTree → LBinderTree
 implicit_binder at xs (Some ty) = typed (binders at Implicit xs ty)
@@ -48,9 +47,9 @@ implicit_binder at xs None = implicit at xs
 abbrev pub lambda_binder_rows : List (Row LBinderTree)
 lambda_binder_rows =
     on_word piece.left_paren (λ at. then (binder_name ∷ binder_names ∷ token piece.colon ∷ term 0 ∷ token piece.right_paren ∷ [])
-        (λ x xs _ ty _. typed (binders at Explicit (x ∷ xs) ty))) ∷
+    (λ x xs _ ty _. typed (binders at Explicit (x ∷ xs) ty))) ∷
     on_word piece.left_brace (λ at. then (binder_name ∷ binder_names ∷ implicit_end ∷ [])
-        (λ x xs ty. implicit_binder at (x ∷ xs) ty)) ∷
+    (λ x xs ty. implicit_binder at (x ∷ xs) ty)) ∷
     begins_as binder_name_rows [] (λ x. plain x)
 
 -- Levels.
@@ -94,14 +93,14 @@ operand_rows =
     on_word piece.sort_word (λ at. then (arguments ∷ []) (sort_spine (sort_u at))) ∷
     on_word piece.left_paren (λ at. then (group at ∷ []) (λ s. s)) ∷
     on_word piece.fun_word (λ at. then (lambda_binder ∷ lambda_binders ∷ token piece.fat_arrow ∷ term 0 ∷ [])
-        (λ b bs _ t. with_arguments (fun_term at (binders_of (b ∷ bs)) t) [])) ∷
+    (λ b bs _ t. with_arguments (fun_term at (binders_of (b ∷ bs)) t) [])) ∷
     on_word piece.forall_word (λ at. then (lambda_binder ∷ lambda_binders ∷ token piece.comma ∷ term 0 ∷ [])
-        (λ b bs _ t. with_arguments (forall_term at (binders_of (b ∷ bs)) t) [])) ∷
+    (λ b bs _ t. with_arguments (forall_term at (binders_of (b ∷ bs)) t) [])) ∷
     on_word piece.let_word (λ at. then (one_part ∷ type_option ∷ token piece.assign ∷ term 0 ∷ token piece.semicolon ∷ term 0 ∷ [])
-        (λ x ty _ v _ t. with_arguments (let_term at x (option_of ty) v t) [])) ∷
+    (λ x ty _ v _ t. with_arguments (let_term at x (option_of ty) v t) [])) ∷
     on_word piece.by_word (λ at. then (symbol.block ∷ []) (λ items. with_arguments (by_term at (items_of items)) [])) ∷
     on_word piece.left_brace (λ at. then (binder_name ∷ binder_names ∷ token piece.colon ∷ term 0 ∷ token piece.right_brace ∷ arrow_token ∷ term 0 ∷ [])
-        (λ x xs _ ty _ _ t. with_arguments (arrow at (binders at Implicit (x ∷ xs) ty) t) [])) ∷ []
+    (λ x xs _ ty _ _ t. with_arguments (arrow at (binders at Implicit (x ∷ xs) ty) t) [])) ∷ []
 
 abbrev pub operator_rows : ℕ → ℕ → List (Row (List (Op × TermTree)))
 operator_rows least left =
@@ -183,13 +182,13 @@ decl_of at x ls bs ty = record { at = at; name = x; levels = ls; binders = bs; t
 abbrev pub command_rows : List (Row Command)
 command_rows =
     on_word piece.axiom_word (λ at. then (any_name ∷ level_names ∷ parameters ∷ token piece.colon ∷ term 0 ∷ [])
-        (λ x ls bs _ ty. Axiom (decl_of at x ls bs (Some ty)))) ∷
+    (λ x ls bs _ ty. Axiom (decl_of at x ls bs (Some ty)))) ∷
     on_word piece.def_word (λ at. then (any_name ∷ level_names ∷ parameters ∷ def_rest ∷ [])
-        (λ x ls bs d. Def (decl_of at x ls bs d.ty) d.value d.helpers)) ∷
+    (λ x ls bs d. Def (decl_of at x ls bs d.ty) d.value d.helpers)) ∷
     on_word piece.theorem_word (λ at. then (any_name ∷ level_names ∷ parameters ∷ token piece.colon ∷ term 0 ∷ token piece.assign ∷ term 0 ∷ helpers ∷ [])
-        (λ x ls bs _ ty _ v hs. Theorem (decl_of at x ls bs (Some ty)) v hs)) ∷
+    (λ x ls bs _ ty _ v hs. Theorem (decl_of at x ls bs (Some ty)) v hs)) ∷
     on_word piece.inductive_word (λ at. then (any_name ∷ level_names ∷ parameters ∷ type_option ∷ where_option ∷ ctors ∷ [])
-        (λ x ls bs ty _ cs. Inductive (decl_of at x ls bs ty) cs)) ∷
+    (λ x ls bs ty _ cs. Inductive (decl_of at x ls bs ty) cs)) ∷
     on_word piece.namespace_word (λ at. then (any_name ∷ []) (Namespace at)) ∷
     on_word piece.section_word (λ at. then (optional_name ∷ []) (Section at)) ∷
     on_word piece.end_word (λ at. then (optional_name ∷ []) (End at)) ∷
@@ -207,12 +206,12 @@ def_rest_rows =
 abbrev pub helper_rows : List (Row Helper)
 helper_rows =
     on_one_part (λ x. then (parameters ∷ token piece.colon ∷ term 0 ∷ token piece.assign ∷ term 0 ∷ [])
-        (λ bs _ ty _ v. record { at = x.at; name = x; binders = bs; ty = ty; value = v })) ∷ []
+    (λ bs _ ty _ v. record { at = x.at; name = x; binders = bs; ty = ty; value = v })) ∷ []
 
 abbrev pub ctors_rows : List (Row (List CtorDecl))
 ctors_rows =
     on_word piece.bar (λ at. then (one_part ∷ parameters ∷ type_option ∷ ctors ∷ [])
-        (λ x bs ty cs. record { at = at; name = x; binders = bs; ty = ty } ∷ cs)) ∷ []
+    (λ x bs ty cs. record { at = at; name = x; binders = bs; ty = ty } ∷ cs)) ∷ []
 
 abbrev pub rows : (x : Symbol) → List (Row (Tree x))
 rows symbol.command = command_rows

@@ -1,10 +1,10 @@
 -- Each part of a term or an item has fewer nodes.
-use Rattle.std.specs.Prelude.{ℕ, ◌+◌, ◌≤◌, List, [], ◌∷◌, max, Option, Some, None}
+use Rattle.std.specs.Prelude.{◌+◌, ◌≤◌, List, [], ◌∷◌, Some, None}
 use Rattle.std.proofs.Common.{arith}
 use Rattle.std.specs.Arc.{arc_value}
 use denote.Param.Weighed.{most}
-use Rattle.lf_syntax.specs.Tree.{TermTree, ItemTree, terms_of, items_of, option_of}
-use Rattle.lf_syntax.specs.Size.{term_size, terms_size, term_option_size, item_size, items_size, lbinder_size, lbinders_size, binders_size, rules_size, rule_size}
+use Rattle.lf_syntax.specs.Tree.{TermTree, ItemTree, terms_of, items_of}
+use Rattle.lf_syntax.specs.Size.{term_size, terms_size, item_size, items_size, lbinder_size, lbinders_size, binders_size, rules_size, rule_size}
 use Rattle.lf_syntax.specs.TermNode.{term_tree, item_tree, lbinder_tree, lbinder_trees, binders_tree, rule_tree, rule_trees}
 use Rattle.lf_syntax.specs.declared.term.TermNode.{TermNode}
 use Rattle.lf_syntax.specs.declared.term.TermNode.TheVariants as term

@@ -178,7 +178,11 @@ impl Command {
     {
         match self {
             Command::Axiom(decl) => Ok(Command::Axiom(decl.copy(alloc)?)),
-            Command::Def { decl, value, helpers } => {
+            Command::Def {
+                decl,
+                value,
+                helpers,
+            } => {
                 let helpers = copy_helpers(alloc, helpers.as_slice())?;
                 Ok(Command::Def {
                     decl: decl.copy(alloc)?,
@@ -186,7 +190,11 @@ impl Command {
                     helpers,
                 })
             }
-            Command::Theorem { decl, value, helpers } => {
+            Command::Theorem {
+                decl,
+                value,
+                helpers,
+            } => {
                 let helpers = copy_helpers(alloc, helpers.as_slice())?;
                 Ok(Command::Theorem {
                     decl: decl.copy(alloc)?,

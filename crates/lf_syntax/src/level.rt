@@ -27,7 +27,10 @@ pub enum LevelNode {
         add: Num,
     },
     /// `max` of two parts or more.
-    Max { at: usize, parts: Vec<LevelTerm> },
+    Max {
+        at: usize,
+        parts: Vec<LevelTerm>,
+    },
     Imax {
         at: usize,
         left: LevelTerm,

@@ -202,6 +202,7 @@ impl Model for Term {
     ghost view = { λ t. term_tree (arc_value t.node) };
 
     ghost size = { term_size };
+
     ghost use Rattle.lf_syntax.specs.TermFalls.{term_falls};
 
     ghost size_decreases = { λ t h. term_falls t };
@@ -222,6 +223,7 @@ impl Model for Item {
     ghost view = { λ i. item_tree (arc_value i.node) };
 
     ghost size = { item_size };
+
     ghost use Rattle.lf_syntax.specs.TermFalls.{item_falls};
 
     ghost size_decreases = { λ i h. item_falls i };
