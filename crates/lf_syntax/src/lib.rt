@@ -5,6 +5,8 @@ mod command;
 mod leaf;
 mod level;
 mod term;
+#[cfg(test)]
+mod tests;
 
 pub use command::{Command, CtorDecl, Decl, Helper};
 pub use leaf::{Ident, Num, Op, SyntaxFault, copy_idents};
