@@ -6,7 +6,7 @@ use Rattle.lf_syntax.specs.Symbol.{Symbol, Tree, any_name, any_names, arguments,
 use Rattle.lf_syntax.specs.Row.{Row, Prod, first_row}
 use Rattle.lf_syntax.specs.Build.{is_underscore}
 use Rattle.lf_syntax.specs.Rows.{rows, group_names_rows_by}
-use Rattle.lf_grammar_laws.specs.Follow.{Asks, asks, serves}
+use Rattle.lf_grammar_laws.proofs.Follow.{Asks, asks, serves}
 use Rattle.lf_grammar_laws.proofs.Found.{InRows, found}
 
 abbrev pub AllServe : {V : Type 0} → Asks → List (Row V) → Type 0

@@ -1,5 +1,6 @@
 pub mod Predict
 pub mod Viable
+pub mod Follow
 pub mod Found
 pub mod Kept
 pub mod Closing

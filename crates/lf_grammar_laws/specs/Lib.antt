@@ -1,4 +1,3 @@
 pub mod Machine
-pub mod Follow
 pub mod Laws
 pub mod Worked

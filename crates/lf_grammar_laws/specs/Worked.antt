@@ -2,6 +2,7 @@
 use Rattle.std.specs.Prelude.{◌≡◌, ℕ, List, [], ◌∷◌, Option, Some, None, true, false, codes, drop, ◌+◌, zero, suc}
 use Prim.Native.String.{String}
 use Rattle.lf_core.specs.declared.binder.BinderKind.TheVariants.{Explicit, Implicit}
+use Rattle.lf_syntax.specs.declared.piece.Word.TheVariants as words
 use Rattle.lf_syntax.specs.declared.leaf.Ident.{Ident}
 use Rattle.lf_syntax.specs.declared.leaf.Num.{Num}
 use Rattle.lf_syntax.specs.declared.leaf.Op.TheVariants.{Arrow, Or, And, Eq, Add, Sub, Mul, Mod}
@@ -15,7 +16,7 @@ use Rattle.lf_syntax.specs.declared.command.Command.TheVariants.{Axiom, Def, The
 use Rattle.lf_syntax.specs.declared.leaf.SyntaxFault.TheVariants.{Token, Wide, Deep}
 use Rattle.lf_syntax.specs.declared.leaf.SyntaxFault.TheVariants as fault
 use Rattle.lf_syntax.specs.Document.{CommandsOf, IsCommand}
-use Rattle.lf_syntax.specs.Piece.{Piece, word, left_paren, check_word}
+use Rattle.lf_syntax.specs.Piece.{Piece, word}
 use Rattle.lf_syntax.specs.Classes.{pieces_of}
 use Rattle.lf_syntax.specs.Grammar.{Answer, IsAnswer, is_command, is_bad, is_short}
 use Rattle.lf_text.specs.Words.{utf8}
@@ -231,10 +232,10 @@ too_wide = record { bytes = utf8 "#check 340282366920938463463374607431768211456
 -- `#check` and so many opening parentheses, the first of them the k-th, with their nesting numbers.
 abbrev pub parentheses : ℕ → ℕ → List Piece
 parentheses k zero = []
-parentheses k (suc n) = record { class = word left_paren; at = 7 + k; «end» = 8 + k; nesting = 1 + k } ∷ parentheses (1 + k) n
+parentheses k (suc n) = record { class = word words.LeftParen; at = 7 + k; «end» = 8 + k; nesting = 1 + k } ∷ parentheses (1 + k) n
 
 abbrev pub check_of : ℕ → List Piece
-check_of n = record { class = word check_word; at = 0; «end» = 6; nesting = 0 } ∷ parentheses 0 n
+check_of n = record { class = word words.Check; at = 0; «end» = 6; nesting = 0 } ∷ parentheses 0 n
 
 -- 257 are too deep at the last one; 256 aren't.
 abbrev pub TooDeep : Type 0

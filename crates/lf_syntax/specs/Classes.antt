@@ -1,10 +1,13 @@
 -- The classes of a text's tokens.
 use Rattle.std.specs.Prelude.{ℕ, true, false, List, [], ◌∷◌, nat_eq, bytes_eq, if◌then◌else◌, ◌+◌}
 use Rattle.lf_core.specs.Term.{Path}
+use Rattle.lf_syntax.specs.declared.piece.Word.TheVariants as words
+use Rattle.lf_syntax.specs.declared.piece.Spelling.TheVariants as spelt
 use Rattle.lf_syntax.specs.declared.leaf.Op.TheVariants.{Iff, Arrow, Or, And, Eq, Ne, Add, Sub, Mul, Div, Mod}
 use Rattle.lf_syntax.specs.declared.leaf.SyntaxFault.TheVariants.{Char, Comment, Numeral, Wide}
-use Rattle.lf_syntax.specs.Piece as piece
-use Rattle.lf_syntax.specs.Piece.{Word, Spelling, Class, word, name, number, operator, wrong, Piece}
+use Rattle.lf_syntax.specs.declared.piece.Word.{Word}
+use Rattle.lf_syntax.specs.declared.piece.Spelling.{Spelling}
+use Rattle.lf_syntax.specs.Piece.{Class, word, name, number, operator, wrong, Piece}
 use Rattle.lf_text.specs.declared.token.Token.{Token}
 use Rattle.lf_text.specs.declared.token.TokenKind.{TokenKind}
 use Rattle.lf_text.specs.declared.token.TokenKind.TheVariants as kind
@@ -16,18 +19,18 @@ use Rattle.lf_text.specs.Nesting.{nesting_of, outermost}
 -- Words and symbols as they are written.
 abbrev pub written : List (List ℕ × Class)
 written =
-    (utf8 "axiom", word piece.axiom_word) ∷ (utf8 "def", word piece.def_word) ∷ (utf8 "theorem", word piece.theorem_word) ∷
-    (utf8 "inductive", word piece.inductive_word) ∷ (utf8 "namespace", word piece.namespace_word) ∷ (utf8 "section", word piece.section_word) ∷
-    (utf8 "end", word piece.end_word) ∷ (utf8 "open", word piece.open_word) ∷ (utf8 "universe", word piece.universe_word) ∷
-    (utf8 "variable", word piece.variable_word) ∷ (utf8 "#check", word piece.check_word) ∷ (utf8 "#reduce", word piece.reduce_word) ∷
-    (utf8 "fun", word piece.fun_word) ∷ (utf8 "λ", word piece.fun_word) ∷ (utf8 "forall", word piece.forall_word) ∷ (utf8 "∀", word piece.forall_word) ∷
-    (utf8 "let", word piece.let_word) ∷ (utf8 "by", word piece.by_word) ∷ (utf8 "where", word piece.where_word) ∷
-    (utf8 "Prop", word piece.prop_word) ∷ (utf8 "Type", word piece.type_word) ∷ (utf8 "Sort", word piece.sort_word) ∷ (utf8 "sorry", word piece.sorry_word) ∷
-    (utf8 "_", word piece.underscore) ∷ (utf8 "(", word piece.left_paren) ∷ (utf8 ")", word piece.right_paren) ∷
-    (utf8 "{", word piece.left_brace) ∷ (utf8 "}", word piece.right_brace) ∷ (utf8 "[", word piece.left_bracket) ∷ (utf8 "]", word piece.right_bracket) ∷
-    (utf8 ":", word piece.colon) ∷ (utf8 ":=", word piece.assign) ∷ (utf8 ",", word piece.comma) ∷ (utf8 ";", word piece.semicolon) ∷
-    (utf8 "=>", word piece.fat_arrow) ∷ (utf8 "↦", word piece.fat_arrow) ∷ (utf8 "@", word piece.at_sign) ∷ (utf8 ".{", word piece.level_brace) ∷
-    (utf8 "·", word piece.dot) ∷ (utf8 "|", word piece.bar) ∷ (utf8 "¬", word piece.not_sign) ∷ (utf8 "←", word piece.back_arrow) ∷ (utf8 "<-", word piece.back_arrow) ∷
+    (utf8 "axiom", word words.Axiom) ∷ (utf8 "def", word words.Def) ∷ (utf8 "theorem", word words.Theorem) ∷
+    (utf8 "inductive", word words.Inductive) ∷ (utf8 "namespace", word words.Namespace) ∷ (utf8 "section", word words.Section) ∷
+    (utf8 "end", word words.End) ∷ (utf8 "open", word words.Open) ∷ (utf8 "universe", word words.Universe) ∷
+    (utf8 "variable", word words.Variable) ∷ (utf8 "#check", word words.Check) ∷ (utf8 "#reduce", word words.Reduce) ∷
+    (utf8 "fun", word words.Fun) ∷ (utf8 "λ", word words.Fun) ∷ (utf8 "forall", word words.Forall) ∷ (utf8 "∀", word words.Forall) ∷
+    (utf8 "let", word words.Let) ∷ (utf8 "by", word words.By) ∷ (utf8 "where", word words.Where) ∷
+    (utf8 "Prop", word words.PropWord) ∷ (utf8 "Type", word words.TypeWord) ∷ (utf8 "Sort", word words.SortWord) ∷ (utf8 "sorry", word words.Sorry) ∷
+    (utf8 "_", word words.Underscore) ∷ (utf8 "(", word words.LeftParen) ∷ (utf8 ")", word words.RightParen) ∷
+    (utf8 "{", word words.LeftBrace) ∷ (utf8 "}", word words.RightBrace) ∷ (utf8 "[", word words.LeftBracket) ∷ (utf8 "]", word words.RightBracket) ∷
+    (utf8 ":", word words.Colon) ∷ (utf8 ":=", word words.Assign) ∷ (utf8 ",", word words.Comma) ∷ (utf8 ";", word words.Semicolon) ∷
+    (utf8 "=>", word words.FatArrow) ∷ (utf8 "↦", word words.FatArrow) ∷ (utf8 "@", word words.AtSign) ∷ (utf8 ".{", word words.LevelBrace) ∷
+    (utf8 "·", word words.Dot) ∷ (utf8 "|", word words.Bar) ∷ (utf8 "¬", word words.NotSign) ∷ (utf8 "←", word words.BackArrow) ∷ (utf8 "<-", word words.BackArrow) ∷
     (utf8 "↔", operator Iff) ∷ (utf8 "<->", operator Iff) ∷ (utf8 "→", operator Arrow) ∷ (utf8 "->", operator Arrow) ∷
     (utf8 "∨", operator Or) ∷ (utf8 "\\/", operator Or) ∷ (utf8 "∧", operator And) ∷ (utf8 "/\\", operator And) ∷
     (utf8 "=", operator Eq) ∷ (utf8 "≠", operator Ne) ∷ (utf8 "+", operator Add) ∷ (utf8 "-", operator Sub) ∷
@@ -36,10 +39,10 @@ written =
 -- Identifiers that mean something in some places.
 abbrev pub spellings : List (List ℕ × Spelling)
 spellings =
-    (utf8 "exact", piece.exact_name) ∷ (utf8 "intro", piece.intro_name) ∷ (utf8 "apply", piece.apply_name) ∷ (utf8 "rfl", piece.rfl_name) ∷
-    (utf8 "assumption", piece.assumption_name) ∷ (utf8 "rw", piece.rw_name) ∷ (utf8 "unfold", piece.unfold_name) ∷ (utf8 "have", piece.have_name) ∷
-    (utf8 "induction", piece.induction_name) ∷ (utf8 "cases", piece.cases_name) ∷ (utf8 "injection", piece.injection_name) ∷
-    (utf8 "max", piece.max_name) ∷ (utf8 "imax", piece.imax_name) ∷ []
+    (utf8 "exact", spelt.Exact) ∷ (utf8 "intro", spelt.Intro) ∷ (utf8 "apply", spelt.Apply) ∷ (utf8 "rfl", spelt.Rfl) ∷
+    (utf8 "assumption", spelt.Assumption) ∷ (utf8 "rw", spelt.Rw) ∷ (utf8 "unfold", spelt.Unfold) ∷ (utf8 "have", spelt.Have) ∷
+    (utf8 "induction", spelt.Induction) ∷ (utf8 "cases", spelt.Cases) ∷ (utf8 "injection", spelt.Injection) ∷
+    (utf8 "max", spelt.Max) ∷ (utf8 "imax", spelt.Imax) ∷ []
 
 -- What stands in the first row of this text.
 abbrev pub looked_up : {A : Type 0} → List (List ℕ × A) → A → List ℕ → A
@@ -56,18 +59,18 @@ parts_of [] = [] ∷ []
 parts_of (c ∷ cs) = elim (nat_eq c 46) [ true ↦ [] ∷ parts_of cs | false ↦ put_first c (parts_of cs) ]
 
 abbrev pub spelling_of : Path → Spelling
-spelling_of (w ∷ []) = looked_up spellings piece.plain_name w
-spelling_of _ = piece.several
+spelling_of (w ∷ []) = looked_up spellings spelt.Plain w
+spelling_of _ = spelt.Several
 
 -- Words and symbols that aren't written above begin commands that the profile leaves out.
 abbrev pub class_of : List ℕ → TokenKind → Class
 class_of text kind.Ident = name (spelling_of (parts_of text)) (parts_of text)
-class_of text kind.Word = looked_up written (word piece.left_out_word) text
-class_of text kind.Symbol = looked_up written (word piece.left_out_word) text
+class_of text kind.Word = looked_up written (word words.LeftOut) text
+class_of text kind.Symbol = looked_up written (word words.LeftOut) text
 class_of text (kind.Num n) = number n
-class_of text kind.Open = word piece.layout_open
-class_of text kind.Sep = word piece.layout_sep
-class_of text kind.Close = word piece.layout_close
+class_of text kind.Open = word words.LayoutOpen
+class_of text kind.Sep = word words.LayoutSep
+class_of text kind.Close = word words.LayoutClose
 class_of text kind.BadChar = wrong Char
 class_of text kind.OpenComment = wrong Comment
 class_of text kind.BadNum = wrong Numeral

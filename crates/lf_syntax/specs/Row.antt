@@ -1,10 +1,13 @@
 -- Rows of the grammar's table: a first token, the symbols behind it, and the tree that comes of theirs.
 use Rattle.std.specs.Prelude.{ℕ, Bool, true, false, not, List, [], ◌∷◌, ◌++◌, Option, None, Some, nat_eq}
+use Rattle.lf_syntax.specs.declared.piece.Spelling.TheVariants as spelt
 use Rattle.lf_syntax.specs.declared.leaf.Ident.{Ident}
 use Rattle.lf_syntax.specs.declared.leaf.Num.{Num}
 use Rattle.lf_syntax.specs.declared.leaf.Op.{Op}
 use Rattle.lf_syntax.specs.Predictive.{Takes, join, Production}
-use Rattle.lf_syntax.specs.Piece.{Word, Spelling, several, word_code, spelling_code, Class, word, name, number, operator}
+use Rattle.lf_syntax.specs.declared.piece.Word.{Word}
+use Rattle.lf_syntax.specs.declared.piece.Spelling.{Spelling}
+use Rattle.lf_syntax.specs.Piece.{word_code, spelling_code, Class, word, name, number, operator}
 use Rattle.lf_syntax.specs.Symbol.{Symbol, Tree}
 
 abbrev pub Prod : Type 0 → Type 0
@@ -29,7 +32,7 @@ if_true true p = Some p
 if_true false p = None
 
 abbrev pub is_one_part : Spelling → Bool
-is_one_part s = not (nat_eq (spelling_code s) (spelling_code several))
+is_one_part s = not (nat_eq (spelling_code s) (spelling_code spelt.Several))
 
 -- What the row says of a token of this class at this place.
 abbrev pub try : {V : Type 0} → Row V → Class → ℕ → Option (Prod V)

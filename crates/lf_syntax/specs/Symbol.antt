@@ -8,7 +8,7 @@ use Rattle.lf_syntax.specs.declared.term.Binders.{Binders}
 use Rattle.lf_syntax.specs.declared.command.Helper.{Helper}
 use Rattle.lf_syntax.specs.declared.command.CtorDecl.{CtorDecl}
 use Rattle.lf_syntax.specs.declared.command.Command.{Command}
-use Rattle.lf_syntax.specs.Piece.{Word}
+use Rattle.lf_syntax.specs.declared.piece.Word.{Word}
 
 -- A head and its arguments.
 pub record Spine : Type 0 where

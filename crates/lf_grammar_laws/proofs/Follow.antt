@@ -1,13 +1,14 @@
 -- What may follow each symbol on the machine's stack, so that the stack can be finished.
 use Rattle.std.proofs.Common.{List, [], ◌∷◌, Bool, true, false, not, ◌&&◌, ◌||◌}
-use Rattle.lf_syntax.specs.Piece.{Word, axiom_word, def_word, theorem_word, inductive_word, namespace_word, section_word, end_word, open_word, universe_word, variable_word, check_word, reduce_word, left_out_word, fun_word, forall_word, let_word, by_word, where_word, prop_word, type_word, sort_word, sorry_word, left_paren, right_paren, left_brace, right_brace, left_bracket, right_bracket, colon, assign, comma, semicolon, fat_arrow, at_sign, level_brace, dot, bar, not_sign, back_arrow, underscore, layout_open, layout_sep, layout_close}
+use Rattle.lf_syntax.specs.declared.piece.Word.TheVariants as words
+use Rattle.lf_syntax.specs.declared.piece.Word.{Word}
 use Rattle.lf_syntax.specs.Symbol.{Symbol, any_name, any_names, arguments, arrow_token, binder, binder_end, binder_name, binder_names, block, command, ctors, def_rest, group, group_close, group_end, group_names, helper, helpers, imax_rest, implicit_end, item, lambda_binder, lambda_binders, level, level_atom, level_atoms, level_names, max_rest, more_helpers, more_items, more_level_names, more_levels, more_rules, number_token, one_part, one_parts, operators, optional_name, parameters, plus_option, rw_rule, term, token, type_option, where_option, written_levels}
 
--- What stands first among the tokens that finish a stack: nothing, a token that nothing optional begins with, a colon, another.
+-- What stands first among the tokens that finish a stack: nothing, a token that nothing optional begins with, a words.Colon, another.
 pub data Next : Type 0 where
   at_end closer at_colon other : Next
 
--- What a symbol asks of it: nothing; no other; neither another nor a colon.
+-- What a symbol asks of it: nothing; no other; neither another nor a words.Colon.
 pub data Asks : Type 0 where
   nothing_more calm_next no_colon : Asks
 
@@ -71,49 +72,49 @@ allows no_colon at_colon = false
 allows no_colon other = false
 
 abbrev pub word_next : Word → Next
-word_next axiom_word = other
-word_next def_word = other
-word_next theorem_word = other
-word_next inductive_word = other
-word_next namespace_word = other
-word_next section_word = other
-word_next end_word = other
-word_next open_word = other
-word_next universe_word = other
-word_next variable_word = other
-word_next check_word = other
-word_next reduce_word = other
-word_next left_out_word = other
-word_next fun_word = other
-word_next forall_word = other
-word_next let_word = other
-word_next by_word = other
-word_next where_word = other
-word_next prop_word = other
-word_next type_word = other
-word_next sort_word = other
-word_next sorry_word = other
-word_next left_paren = other
-word_next right_paren = closer
-word_next left_brace = other
-word_next right_brace = closer
-word_next left_bracket = other
-word_next right_bracket = closer
-word_next colon = at_colon
-word_next assign = closer
-word_next comma = closer
-word_next semicolon = closer
-word_next fat_arrow = closer
-word_next at_sign = other
-word_next level_brace = other
-word_next dot = other
-word_next bar = other
-word_next not_sign = other
-word_next back_arrow = other
-word_next underscore = other
-word_next layout_open = other
-word_next layout_sep = other
-word_next layout_close = closer
+word_next words.Axiom = other
+word_next words.Def = other
+word_next words.Theorem = other
+word_next words.Inductive = other
+word_next words.Namespace = other
+word_next words.Section = other
+word_next words.End = other
+word_next words.Open = other
+word_next words.Universe = other
+word_next words.Variable = other
+word_next words.Check = other
+word_next words.Reduce = other
+word_next words.LeftOut = other
+word_next words.Fun = other
+word_next words.Forall = other
+word_next words.Let = other
+word_next words.By = other
+word_next words.Where = other
+word_next words.PropWord = other
+word_next words.TypeWord = other
+word_next words.SortWord = other
+word_next words.Sorry = other
+word_next words.LeftParen = other
+word_next words.RightParen = closer
+word_next words.LeftBrace = other
+word_next words.RightBrace = closer
+word_next words.LeftBracket = other
+word_next words.RightBracket = closer
+word_next words.Colon = at_colon
+word_next words.Assign = closer
+word_next words.Comma = closer
+word_next words.Semicolon = closer
+word_next words.FatArrow = closer
+word_next words.AtSign = other
+word_next words.LevelBrace = other
+word_next words.Dot = other
+word_next words.Bar = other
+word_next words.NotSign = other
+word_next words.BackArrow = other
+word_next words.Underscore = other
+word_next words.LayoutOpen = other
+word_next words.LayoutSep = other
+word_next words.LayoutClose = closer
 
 -- The first of the tokens that finish a symbol and what is below it.
 abbrev pub next_of : Symbol → Next → Next
