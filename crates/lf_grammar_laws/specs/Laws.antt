@@ -1,12 +1,15 @@
 -- The laws of the grammar.
-use Rattle.std.specs.Prelude.{◌≡◌, ◌↔◌, ℕ, zero, suc, List, [], ◌∷◌, length, take, drop, None, Some}
+use Rattle.std.specs.Prelude.{◌≡◌, ◌↔◌, ℕ, zero, suc, Bool, true, false, List, [], ◌∷◌, ◌++◌, map, length, take, drop, None, Some}
 use Rattle.std.specs.List.{prefix_len}
 use Rattle.lf_syntax.specs.declared.leaf.SyntaxFault.TheVariants.{Token, End, Deep}
-use Rattle.lf_syntax.specs.Classes.{pieces_of}
+use Rattle.lf_syntax.specs.Classes.{pieces_of, class_of}
+use Rattle.lf_syntax.specs.declared.piece.Word.TheVariants.{LeftOut}
+use Rattle.lf_text.specs.declared.token.TokenKind.TheVariants.{Symbol}
+use Rattle.lf_text.specs.Words.{reserved_words, symbols, left_out_words, is_among, begins_command as cuts}
 use Rattle.lf_syntax.specs.declared.leaf.SyntaxFault.{SyntaxFault}
 use Rattle.lf_syntax.specs.declared.command.Command.TheVariants.{Bad}
 use Rattle.lf_syntax.specs.Document.{IsCommand, CommandsOf, first_deep, fault_of, end_of, inside}
-use Rattle.lf_syntax.specs.Piece.{Piece}
+use Rattle.lf_syntax.specs.Piece.{Piece, Class, word, begins_command}
 use Rattle.lf_syntax.specs.Symbol.{command}
 use Rattle.lf_syntax.specs.declared.command.Command.{Command}
 use Rattle.lf_syntax.specs.Grammar.{grammar, Derives, Begins, BadAt, Answer, IsAnswer, is_command, is_bad, is_short}
@@ -76,3 +79,15 @@ OneDocument = (bytes : List ℕ) → (cs : List Command) × CommandsOf bytes cs 
 -- No derivation gives a bad command: a command is bad only by its nesting, its first token that doesn't belong, or its end.
 abbrev pub NeverBad : Type 0
 NeverBad = (ts : List Piece) (at : ℕ) (f : SyntaxFault) → Derives ts (Bad at f) → ⊥
+
+abbrev pub is_left_out : Class → Bool
+is_left_out (word LeftOut) = true
+is_left_out _ = false
+
+-- Every word and symbol begins a command here where it does for the layout, and is left out where it is on that list.
+abbrev pub WordsAgree : Type 0
+WordsAgree =
+    let texts : List (List ℕ) = reserved_words ++ symbols in
+    let class : List ℕ → Class = λ text. class_of text Symbol in
+    (map (λ text. begins_command (class text)) texts ≡ map cuts texts) ×
+    (map (λ text. is_left_out (class text)) texts ≡ map (λ text. is_among left_out_words text) texts)
