@@ -37,8 +37,7 @@ pub fn stuck_is_local()
 /// Tokens begin a command for the grammar where they do for the layout.
 pub fn words_agree()
     ensures { WordsAgree }
-{
-}
+{}
 
 /// The worked texts have the answers that are written beside them.
 pub fn worked()

@@ -5,7 +5,6 @@ use Rattle.lf_syntax.specs.declared.piece.Word.TheVariants as words
 use Rattle.lf_syntax.specs.declared.piece.Spelling.TheVariants as spelt
 use Rattle.lf_syntax.specs.declared.leaf.Op.TheVariants.{Iff, Arrow, Or, And, Eq, Ne, Add, Sub, Mul, Div, Mod}
 use Rattle.lf_syntax.specs.declared.leaf.SyntaxFault.TheVariants.{Char, Comment, Numeral, Wide}
-use Rattle.lf_syntax.specs.declared.piece.Word.{Word}
 use Rattle.lf_syntax.specs.declared.piece.Spelling.{Spelling}
 use Rattle.lf_syntax.specs.Piece.{Class, word, name, number, operator, wrong, Piece}
 use Rattle.lf_text.specs.declared.token.Token.{Token}

@@ -14,7 +14,6 @@ use Rattle.lf_syntax.specs.declared.command.Helper.{Helper}
 use Rattle.lf_syntax.specs.declared.command.CtorDecl.{CtorDecl}
 use Rattle.lf_syntax.specs.declared.command.Command.{Command}
 use Rattle.lf_syntax.specs.declared.command.Command.TheVariants.{Axiom, Def, Theorem, Inductive, Namespace, Section, End, OpenNames, Universe, Variable, Check, Reduce}
-use Rattle.lf_syntax.specs.declared.piece.Word.{Word}
 use Rattle.lf_syntax.specs.Levels.{op_level, right_of, takes, is_arrow, is_add, operand_level, not_level}
 use Rattle.lf_syntax.specs.Symbol as symbol
 use Rattle.lf_syntax.specs.Symbol.{Symbol, Tree, Spine, GroupEnd, BinderEnd, arrow_to, arguments_to, DefRest, term, token, arrow_token, number_token, any_name, one_part, binder_name, optional_name, any_names, one_parts, binder_names, level_names, more_level_names, binder, parameters, lambda_binder, lambda_binders, implicit_end, def_rest, type_option, where_option, ctors, helpers, helper, more_helpers, arguments, operators, group, group_names, group_end, group_close, binder_end, written_levels, more_levels, level, plus_option, level_atom, level_atoms, max_rest, imax_rest, more_items, item, rw_rule, more_rules}

@@ -1,5 +1,6 @@
 use crate::{
-    Binders, Command, CtorDecl, Decl, Helper, Ident, Item, ItemNode, LevelNode, LevelTerm, Num, SyntaxFault, Term, TermNode,
+    Binders, Command, CtorDecl, Decl, Helper, Ident, Item, ItemNode, LevelNode, LevelTerm, Num,
+    SyntaxFault, Term, TermNode,
 };
 use lf_core::{BinderKind, Name, NoMemory};
 use sqlite_items::Items;
@@ -139,7 +140,11 @@ fn gives_its_parts(rt: HostRuntime) -> Result<(), Fail> {
     assert_eq!(rt; *at, 0);
     assert_eq!(rt; items.len(), 1);
     let term = sort(rt.alloc())?;
-    let TermNode::SortU { level: Some(level), .. } = term.node() else {
+    let TermNode::SortU {
+        level: Some(level),
+        ..
+    } = term.node()
+    else {
         return Err(Fail::from("no level"));
     };
     assert!(rt; matches!(level.node(), LevelNode::Plus { at: 24, .. }));
