@@ -1,0 +1,5 @@
+use Rattle.lf_grammar_laws.proofs.Document as laws
+use Rattle.lf_grammar_laws.proofs.one_command.Goals as goal
+
+pub returns : goal.returns
+returns c = laws.one_command

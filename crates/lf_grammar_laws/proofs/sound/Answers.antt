@@ -1,0 +1,5 @@
+use Rattle.lf_grammar_laws.proofs.Grammar as laws
+use Rattle.lf_grammar_laws.proofs.sound.Goals as goal
+
+pub returns : goal.returns
+returns c = laws.sound

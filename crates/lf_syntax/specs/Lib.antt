@@ -1,0 +1,17 @@
+pub mod Predictive
+pub mod Tree
+pub mod Piece
+pub mod Levels
+pub mod Symbol
+pub mod Row
+pub mod Build
+pub mod Rows
+pub mod Grammar
+pub mod Classes
+pub mod Document
+pub mod Codes
+pub mod Size
+pub mod Node
+pub mod Falls
+pub mod TermNode
+pub mod TermFalls

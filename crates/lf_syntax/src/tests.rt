@@ -1,0 +1,155 @@
+use crate::{
+    Binders, Command, CtorDecl, Decl, Helper, Ident, Item, ItemNode, LevelNode, LevelTerm, Num,
+    SyntaxFault, Term, TermNode,
+};
+use lf_core::{BinderKind, Name, NoMemory};
+use sqlite_items::Items;
+use std::alloc::Global;
+use std::test::Fail;
+
+fn ident(alloc: Global, at: usize, text: &str) -> Result<Ident, NoMemory> {
+    Ok(Ident {
+        at,
+        name: Name::one(alloc, text)?,
+    })
+}
+
+fn idents(alloc: Global) -> Result<Items<Ident>, NoMemory> {
+    let mut all = Items::new(alloc);
+    all.push(ident(alloc, 9, "u")?)?;
+    Ok(all)
+}
+
+fn groups(alloc: Global) -> Result<Items<Binders>, NoMemory> {
+    let mut all = Items::new(alloc);
+    let names = idents(alloc)?;
+    let ty = Term::of(alloc, TermNode::Hole { at: 14 })?;
+    all.push(Binders {
+        at: 12,
+        kind: BinderKind::Implicit,
+        names,
+        ty,
+    })?;
+    Ok(all)
+}
+
+// `Sort (1 + 2)`
+fn sort(alloc: Global) -> Result<Term, NoMemory> {
+    let base = LevelTerm::of(alloc, LevelNode::Num(Num { at: 24, value: 1 }))?;
+    let add = Num { at: 28, value: 2 };
+    let level = LevelTerm::of(alloc, LevelNode::Plus { at: 24, base, add })?;
+    let level = Some(level.copy(alloc)?);
+    Term::of(alloc, TermNode::SortU { at: 18, level })
+}
+
+// `by intro u`
+fn proof(alloc: Global) -> Result<Term, NoMemory> {
+    let names = idents(alloc)?;
+    let item = Item::of(alloc, ItemNode::Intro { at: 3, names })?;
+    let mut items = Vec::new(alloc);
+    items.push(item.copy(alloc)?)?;
+    Term::of(alloc, TermNode::By { at: 0, items })
+}
+
+fn decl(alloc: Global) -> Result<Decl, NoMemory> {
+    let name = ident(alloc, 6, "D")?;
+    let levels = idents(alloc)?;
+    let binders = groups(alloc)?;
+    let ty = Some(sort(alloc)?);
+    Ok(Decl {
+        at: 0,
+        name,
+        levels,
+        binders,
+        ty,
+    })
+}
+
+fn helpers(alloc: Global) -> Result<Items<Helper>, NoMemory> {
+    let mut all = Items::new(alloc);
+    let name = ident(alloc, 50, "h")?;
+    let binders = groups(alloc)?;
+    let ty = sort(alloc)?;
+    let value = proof(alloc)?;
+    all.push(Helper {
+        at: 50,
+        name,
+        binders,
+        ty,
+        value,
+    })?;
+    Ok(all)
+}
+
+fn ctors(alloc: Global) -> Result<Items<CtorDecl>, NoMemory> {
+    let mut all = Items::new(alloc);
+    let name = ident(alloc, 50, "c")?;
+    let binders = groups(alloc)?;
+    all.push(CtorDecl {
+        at: 48,
+        name,
+        binders,
+        ty: None,
+    })?;
+    Ok(all)
+}
+
+fn commands(alloc: Global) -> Result<Vec<Command>, NoMemory> {
+    let mut all = Vec::new(alloc);
+    all.push(Command::Axiom(decl(alloc)?))?;
+    let helpers = helpers(alloc)?;
+    all.push(Command::Def {
+        decl: decl(alloc)?,
+        value: proof(alloc)?,
+        helpers,
+    })?;
+    let ctors = ctors(alloc)?;
+    all.push(Command::Inductive {
+        decl: decl(alloc)?,
+        ctors,
+    })?;
+    let names = idents(alloc)?;
+    all.push(Command::OpenNames { at: 1, names })?;
+    all.push(Command::End { at: 2, name: None })?;
+    let term = proof(alloc)?;
+    all.push(Command::Check { at: 3, term })?;
+    let fault = SyntaxFault::Deep;
+    all.push(Command::Bad { at: 4, fault })?;
+    Ok(all)
+}
+
+// A copy prints as its source.
+#[test]
+fn copies_commands(rt: HostRuntime) -> Result<(), Fail> {
+    for command in &commands(rt.alloc())? {
+        let copy = command.copy(rt.alloc())?;
+        let wanted = format!(in rt.alloc(); "{command:?}")?;
+        let got = format!(in rt.alloc(); "{copy:?}")?;
+        assert_eq!(rt; got.as_str(), wanted.as_str());
+    }
+    Ok(())
+}
+
+// The forms can be read back.
+#[test]
+fn gives_its_parts(rt: HostRuntime) -> Result<(), Fail> {
+    let term = proof(rt.alloc())?;
+    let TermNode::By { at, items } = term.node() else {
+        return Err(Fail::from("no `by`"));
+    };
+    assert_eq!(rt; *at, 0);
+    assert_eq!(rt; items.len(), 1);
+    let term = sort(rt.alloc())?;
+    let TermNode::SortU {
+        level: Some(level),
+        ..
+    } = term.node()
+    else {
+        return Err(Fail::from("no level"));
+    };
+    assert!(rt; matches!(level.node(), LevelNode::Plus { at: 24, .. }));
+    for item in items {
+        assert!(rt; matches!(item.node(), ItemNode::Intro { at: 3, .. }));
+    }
+    Ok(())
+}

@@ -1,0 +1,32 @@
+use Rattle.std.proofs.Common.{◌≡◌, ℕ, List, [], ◌∷◌, ◌++◌, refl, true, false, codes, Some, None}
+use Rattle.lf_text.specs.declared.token.Token.{Token}
+use Rattle.lf_text.specs.declared.token.TokenKind.{TokenKind}
+use Rattle.lf_text.specs.declared.token.TokenKind.TheVariants.{Ident, Word, Symbol, Num, BadChar, OpenComment, BadNum, WideNum, Open, Sep, Close}
+use Rattle.lf_text.specs.Words.{utf8, is_among, reserved_words}
+use Rattle.lf_text.specs.Lexemes.{lexemes_of, kind_of, starts_part, continues_part, is_name, longest_token, token_at, piece_at}
+use Rattle.lf_text.specs.Tokens.{tokens_of}
+use Rattle.lf_text.specs.Nesting.{nesting_of, outermost}
+use Rattle.std.specs.Str.{chars}
+use Rattle.unicode_ident.proofs.Computing.{unicode_ident}
+use Rattle.std.specs.Char.{encode_utf8}
+
+token : ℕ → ℕ → TokenKind → Token
+token at len kind = record { at = at; len = len; kind = kind }
+
+reserved : is_among reserved_words (codes "def") ≡ true
+unfolding encode_utf8
+reserved = refl
+
+name : is_name (codes "ab.c1") ≡ true
+unfolding starts_part continues_part unicode_ident encode_utf8
+name = refl
+
+word : lexemes_of (utf8 "def a := 12") ≡ token 0 3 Word ∷ token 4 1 Ident ∷ token 6 2 Symbol ∷ token 9 2 (Num 12) ∷ []
+unfolding token lexemes_of chars starts_part continues_part unicode_ident encode_utf8
+word = refl
+
+layout : tokens_of (utf8 "theorem t : A := by\n  exact f\n  rfl\ndef") ≡
+    token 0 7 Word ∷ token 8 1 Ident ∷ token 10 1 Symbol ∷ token 12 1 Ident ∷ token 14 2 Symbol ∷ token 17 2 Word
+    ∷ token 22 0 Open ∷ token 22 5 Ident ∷ token 28 1 Ident ∷ token 32 0 Sep ∷ token 32 3 Ident ∷ token 35 0 Close ∷ token 36 3 Word ∷ []
+unfolding token lexemes_of tokens_of chars starts_part continues_part unicode_ident encode_utf8
+layout = refl

@@ -1,0 +1,129 @@
+use Rattle.std.specs.Prelude.{ℕ, ◌+◌, List, [], ◌∷◌, ◌++◌, take, drop, Bool, true, false, not, ◌||◌, ◌&&◌, ◌==◌, nat_lt, if◌then◌else◌, bytes_eq, replicate, count_by}
+use Rattle.std.specs.List.{prefix_len}
+use Rattle.lf_text.specs.declared.frame.Frame.{Frame}
+use Rattle.lf_text.specs.declared.frame.Frame.TheVariants.{Block, Bracket}
+use Rattle.lf_text.specs.declared.token.Token.{Token}
+use Rattle.lf_text.specs.declared.token.TokenKind.{TokenKind}
+use Rattle.lf_text.specs.declared.token.TokenKind.TheVariants.{Open, Sep, Close}
+use Rattle.lf_text.specs.Words.{utf8, is_among, begins_command, block_openers, opening_brackets, closing_brackets}
+use Rattle.lf_text.specs.Place.{line_of, column_of}
+
+-- the bytes of a token
+abbrev pub spelled : List ℕ → Token → List ℕ
+spelled bytes t = take t.len (drop t.at bytes)
+
+-- a layout token at a place
+abbrev pub mark : TokenKind → ℕ → Token
+mark kind at = record { at = at; len = 0; kind = kind }
+
+-- the token is the first on its line, where this one comes before it
+abbrev pub is_first : List ℕ → Token → Token → Bool
+is_first bytes previous t = nat_lt (line_of bytes previous.at) (line_of bytes t.at)
+
+-- a block opens between two tokens: after `by`, `·`, and a `where` whose next token isn't `|`
+abbrev pub opens_block : List ℕ → List ℕ → Bool
+opens_block previous text =
+    is_among block_openers previous || (bytes_eq (utf8 "where") previous && not (bytes_eq (utf8 "|") text))
+
+-- What is open is listed from the innermost on.
+
+abbrev pub is_block : Frame → Bool
+is_block (Block column) = true
+is_block Bracket = false
+
+abbrev pub is_bracket : Frame → Bool
+is_bracket (Block column) = false
+is_bracket Bracket = true
+
+-- a block of a greater column
+abbrev pub is_deeper : ℕ → Frame → Bool
+is_deeper column (Block c) = nat_lt column c
+is_deeper column Bracket = false
+
+-- how many blocks are open, how many of them above the innermost open bracket, and how many, from
+-- the innermost on, have a greater column
+abbrev pub blocks : List Frame → ℕ
+blocks frames = count_by is_block frames
+
+abbrev pub blocks_above : List Frame → ℕ
+blocks_above frames = prefix_len is_block frames
+
+abbrev pub deeper_blocks : ℕ → List Frame → ℕ
+deeper_blocks column frames = prefix_len (is_deeper column) frames
+
+-- a bracket is open
+abbrev pub has_bracket : List Frame → Bool
+has_bracket frames = nat_lt 0 (count_by is_bracket frames)
+
+-- the innermost thing open is a block of this column
+abbrev pub is_block_at : ℕ → List Frame → Bool
+is_block_at column [] = false
+is_block_at column (Block c ∷ frames) = c == column
+is_block_at column (Bracket ∷ frames) = false
+
+-- layout tokens, and what is open after them
+pub record Put : Type 0 where
+  pub tokens : List Token
+  pub frames : List Frame
+
+-- nothing yet
+abbrev pub nothing : List Frame → Put
+nothing frames = record { tokens = []; frames = frames }
+
+-- the innermost n blocks close
+abbrev pub close : ℕ → ℕ → Put → Put
+close at n put = record { tokens = put.tokens ++ replicate n (mark Close at); frames = drop n put.frames }
+
+-- a block of this column opens
+abbrev pub open_block : ℕ → ℕ → Put → Put
+open_block at column put = record { tokens = put.tokens ++ mark Open at ∷ []; frames = Block column ∷ put.frames }
+
+-- a Sep, where a block of this column is the innermost thing open
+abbrev pub part_items : ℕ → ℕ → Put → Put
+part_items at column put =
+    record put { tokens = put.tokens ++ (if is_block_at column put.frames then mark Sep at ∷ [] else []) }
+
+-- at a token that is the first on its line: deeper blocks close, and a block of its column goes on
+abbrev pub new_line : ℕ → ℕ → Put → Put
+new_line at column put = part_items at column (close at (deeper_blocks column put.frames) put)
+
+-- at a `where`: all blocks above the innermost open bracket close
+abbrev pub at_where : ℕ → List ℕ → Put → Put
+at_where at text put = if bytes_eq (utf8 "where") text then close at (blocks_above put.frames) put else put
+
+-- at a closing bracket: the blocks above its bracket close, and the bracket
+abbrev pub at_closing : ℕ → List ℕ → Put → Put
+at_closing at text put =
+    if is_among closing_brackets text && has_bracket put.frames
+    then (let closed = close at (blocks_above put.frames) put in record closed { frames = drop 1 closed.frames })
+    else put
+
+-- inside a command: what the rules put before a token
+abbrev pub put_inside : List ℕ → Token → List Frame → Token → Put
+put_inside bytes previous frames t =
+    let text = spelled bytes t in
+    let column = column_of bytes t.at in
+    at_closing t.at text
+    (if opens_block (spelled bytes previous) text
+    then at_where t.at text (open_block t.at column (nothing frames))
+    else (if is_first bytes previous t
+    then new_line t.at column (at_where t.at text (nothing frames))
+    else at_where t.at text (nothing frames)))
+
+-- what is put before a token; the end of a command, behind its last token, closes all its blocks
+abbrev pub put_before : List ℕ → Token → List Frame → Token → Put
+put_before bytes previous frames t =
+    if begins_command (spelled bytes t)
+    then record { tokens = replicate (blocks frames) (mark Close (previous.at + previous.len)); frames = [] }
+    else put_inside bytes previous frames t
+
+-- what is open behind a token
+abbrev pub open_after : List ℕ → Token → List Frame → List Frame
+open_after bytes t frames = if is_among opening_brackets (spelled bytes t) then Bracket ∷ frames else frames
+
+-- the tokens with the layout tokens of the rules; `previous` comes before them
+abbrev pub laid_out : List ℕ → Token → List Frame → List Token → List Token
+laid_out bytes previous frames [] = replicate (blocks frames) (mark Close (previous.at + previous.len))
+laid_out bytes previous frames (t ∷ tokens) =
+    let put = put_before bytes previous frames t in
+    put.tokens ++ (t ∷ laid_out bytes t (open_after bytes t put.frames) tokens)

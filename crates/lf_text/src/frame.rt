@@ -1,0 +1,8 @@
+/// What is open at a place of a command, for the layout rules.
+#[derive(Clone, Copy, Debug, PartialEq, Eq)]
+pub enum Frame {
+    /// A block, and its column.
+    Block(u32),
+    /// A bracket.
+    Bracket,
+}
