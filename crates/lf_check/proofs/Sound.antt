@@ -67,7 +67,7 @@ constant_at : (E : Environment) (C : Context) (n : Path) (ls : List Universe) (c
     → IfTyped (HasType E C (const n ls)) (infer.constant_type n ls (Some c))
 constant_at E C n ls c true e within named =
     rw e (made_sound (HasType E C (const n ls)) (level_instantiate ls c.ty) _ refl
-      (subst (λ (m : Path). HasType E C (const m ls) (level_instantiate ls c.ty)) named (constant c ls within (eqb-true (length ls) (length c.levels) e))))
+    (subst (λ (m : Path). HasType E C (const m ls) (level_instantiate ls c.ty)) named (constant c ls within (eqb-true (length ls) (length c.levels) e))))
 constant_at E C n ls c false e within named = rw e tt
 
 constant_sound : (E : Environment) (C : Context) (n : Path) (ls : List Universe) (o : Option ConstInfo) → find_constant E n ≡ o → IfTyped (HasType E C (const n ls)) (infer.constant_type n ls o)

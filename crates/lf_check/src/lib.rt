@@ -5,4 +5,7 @@ mod fault;
 mod typing;
 
 pub use fault::TypeFault;
-pub use typing::{CheckCx, infer};
+pub use typing::{CheckCx, infer, is_shallow};
+
+#[cfg(test)]
+mod tests;

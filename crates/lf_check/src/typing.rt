@@ -1,5 +1,5 @@
 //! Types of sorts, constants, variables and pis.
-ghost use Rattle.std.specs.Prelude.{◌≡◌, ◌≤◌, ◌++◌, ◌∷◌, [], All, IfOk, Ok, length, option_copied, slice_get};
+ghost use Rattle.std.specs.Prelude.{◌≡◌, ◌↔◌, IsTrue, ◌≤◌, ◌++◌, ◌∷◌, [], All, IfOk, Ok, length, option_copied, slice_get};
 ghost use Rattle.lf_core.specs.Size as size;
 ghost use Rattle.lf_core.specs.Substitution.{instantiate, level_instantiate};
 ghost use Rattle.lf_core.specs.Term.{free};
@@ -156,9 +156,10 @@ fn form_type(
         ExprNode::Const(name, levels) => constant_type(alloc, consts, name, levels.as_slice()),
         ExprNode::Pi(_, domain, body) => pi_type(alloc, consts, locals, depth, domain, body),
         ExprNode::Bound(_) | ExprNode::Meta(_) => Err(Halt::Refused(TypeFault::NotClosed)),
-        ExprNode::App(_, _) | ExprNode::Lam(_, _, _) | ExprNode::Let(_, _, _, _) | ExprNode::Lit(_) => {
-            Err(Halt::Refused(TypeFault::NotBuilt))
-        }
+        ExprNode::App(_, _)
+        | ExprNode::Lam(_, _, _)
+        | ExprNode::Let(_, _, _, _)
+        | ExprNode::Lit(_) => { Err(Halt::Refused(TypeFault::NotBuilt)) }
     }
 }
 
@@ -223,4 +224,11 @@ pub fn infer(alloc: Global, cx: &mut CheckCx<'_>, term: &Expr) -> Ans<Expr, Type
         Err(Halt::Out) => Ans::Out,
         Err(Halt::NoMemory) => Ans::NoMemory,
     }
+}
+
+/// Whether no constant has a type that is deeper than 1,024, as `infer` asks.
+pub fn is_shallow(consts: &[ConstInfo]) -> bool
+    ensures { IsTrue result ↔ All IsShallow consts.now }
+{
+    consts.iter().all(|c| c.ty.depth() <= 1024)
 }
