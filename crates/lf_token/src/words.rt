@@ -1,7 +1,13 @@
+ghost use Rattle.std.specs.Prelude.{◌≡◌, drop};
+ghost use Rattle.lf_text.specs.Words.{is_among, command_words, left_out_words, reserved_words, symbols};
+ghost use Rattle.lf_token.specs.Spelling.{longest_among};
+
 use lf_tables::{Table, rows};
 
 /// Whether the text is a word that begins a command.
-pub fn is_command_word(text: &str) -> bool {
+pub fn is_command_word(text: &str) -> bool
+    ensures { result ≡ is_among command_words text.now }
+{
     let rows = rows! {
         "#check" => (),
         "#reduce" => (),
@@ -20,7 +26,9 @@ pub fn is_command_word(text: &str) -> bool {
 }
 
 /// Whether the text begins a command that the profile leaves out.
-pub fn is_left_out_word(text: &str) -> bool {
+pub fn is_left_out_word(text: &str) -> bool
+    ensures { result ≡ is_among left_out_words text.now }
+{
     let rows = rows! {
         "#eval" => (),
         "#print" => (),
@@ -49,7 +57,9 @@ pub fn is_left_out_word(text: &str) -> bool {
 }
 
 /// Whether the text is a reserved word or the hole `_`.
-pub fn is_reserved_word(text: &str) -> bool {
+pub fn is_reserved_word(text: &str) -> bool
+    ensures { result ≡ is_among reserved_words text.now }
+{
     let rows = rows! {
         "Prop" => (),
         "Sort" => (),
@@ -95,7 +105,9 @@ pub fn is_reserved_word(text: &str) -> bool {
 }
 
 /// How many bytes the longest symbol has that stands there, or 0.
-pub fn symbol_len(text: &str, at: usize) -> usize {
+pub fn symbol_len(text: &str, at: usize) -> usize
+    ensures { result ≡ longest_among symbols (drop at text.now) }
+{
     let rows = rows! {
         "#check" => (),
         "#eval" => (),

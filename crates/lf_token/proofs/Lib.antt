@@ -1,0 +1,9 @@
+pub mod Comments
+pub mod Digits
+pub mod Logic
+pub mod Names
+pub mod Numerals
+pub mod Spellings
+pub mod Pieces
+pub mod Steps
+pub mod Symbols
