@@ -80,7 +80,7 @@ cut cs n l =
     let m : n < length cs = omega arith in
     let k : suc n < length cs = omega arith in
     let two : suc (suc n) ≡ n + 2 = omega arith in
-    drop-cons cs n 0 ∙ ap (λ xs. get_or cs n 0 ∷ xs) (drop-cons cs (suc n) 0)
+    drop-cons cs n 0 m ∙ ap (λ xs. get_or cs n 0 ∷ xs) (drop-cons cs (suc n) 0 k)
     ∙ ap (λ i. get_or cs n 0 ∷ get_or cs i 0 ∷ drop (suc (suc n)) cs) (sym (add-one n))
     ∙ ap (λ i. get_or cs n 0 ∷ get_or cs (n + 1) 0 ∷ drop i cs) two
 
@@ -88,7 +88,7 @@ behind_one : (cs : List ℕ) (n : ℕ) → n + 1 < length cs → get_or cs (n + 
 behind_one cs n l =
     let k : n + 1 < length cs = l in
     let two : suc (n + 1) ≡ n + 2 = omega arith in
-    sym (drop-cons cs (n + 1) 0 ∙ ap (λ i. get_or cs (n + 1) 0 ∷ drop i cs) two)
+    sym (drop-cons cs (n + 1) 0 k ∙ ap (λ i. get_or cs (n + 1) 0 ∷ drop i cs) two)
 
 shift : (n j : ℕ) (o : Option ℕ) → option_map (λ k. k + n) (option_map (λ k. k + j) o) ≡ option_map (λ k. k + (n + j)) o
 shift n j None = refl

@@ -33,3 +33,9 @@ pub record Code (c : ℕ) : Type 0 where
 
 pub code_of : (c : ℕ) → is_digit c ≡ true → Code c
 code_of c e = record { low = leb-true 48 c (and_left (nat_le 48 c) (nat_le c 57) e); high = leb-true c 57 (and_right (nat_le 48 c) (nat_le c 57) e) }
+
+pub drop_past : (n : ℕ) (cs : List ℕ) → length cs ≤ n → drop n cs ≡ []
+drop_past zero [] l = refl
+drop_past zero (c ∷ cs) l = absurd (omega arith)
+drop_past (suc n) [] l = refl
+drop_past (suc n) (c ∷ cs) l = drop_past n cs (omega arith)

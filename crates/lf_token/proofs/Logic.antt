@@ -1,4 +1,4 @@
-use Rattle.std.proofs.Common.{◌≡◌, ℕ, ◌+◌, ◌≤◌, ◌<◌, List, [], ◌∷◌, length, take, drop, Bool, true, false, cond, ◌||◌, ◌&&◌, not, refl, sym, ap, ◌∙◌, subst, arith, zero, suc, true≢false, ◌⊎◌, inl, inr, ⊎_elim, add-one, Option, Some, None, max}
+use Rattle.std.proofs.Common.{◌≡◌, ℕ, ◌+◌, ◌-◌, ◌≤◌, ◌<◌, List, [], ◌∷◌, length, take, drop, Bool, true, false, cond, ◌||◌, ◌&&◌, not, refl, sym, ap, ◌∙◌, subst, arith, zero, suc, true≢false, ◌⊎◌, inl, inr, ⊎_elim, add-one, Option, Some, None, max}
 use Rattle.std.specs.Prelude.{is_some, unwrap_or}
 use Rattle.std.specs.List.{list_all, prefix_len}
 use Rattle.std.proofs.lemmas.Bool.{cases_lt}
@@ -128,3 +128,15 @@ bad_is cs longer none =
       longest_is (λ front. is_some (kind_of front)) cs 0 (λ l. absurd (omega arith)) (λ m l w. ap is_some (longer m l w)) (length cs) (omega arith) (omega arith) in
     ap (λ (k : ℕ). (Some (unwrap_or (kind_of (take k cs)) BadChar), max k 1)) e
     ∙ ap (λ (o : Option TokenKind). (Some (unwrap_or o BadChar), max 0 1)) none
+
+-- a slice to the end
+pub slice_end : (n : ℕ) (cs : List ℕ) → take (length cs - n) (drop n cs) ≡ drop n cs
+slice_end zero [] = refl
+slice_end zero (c ∷ cs) = ap (λ (m : ℕ). take m (c ∷ cs)) (let e : length (c ∷ cs) - 0 ≡ suc (length cs) = omega arith in e) ∙ ap (λ xs. c ∷ xs) (take_all cs)
+  where
+    take_all : (xs : List ℕ) → take (length xs) xs ≡ xs
+    take_all [] = refl
+    take_all (x ∷ xs) = ap (λ ys. x ∷ ys) (take_all xs)
+slice_end (suc n) [] = ap (λ (m : ℕ). take m []) (let e : 0 - suc n ≡ 0 = omega arith in e)
+slice_end (suc n) (c ∷ cs) =
+    ap (λ (m : ℕ). take m (drop n cs)) (let e : length (c ∷ cs) - suc n ≡ length cs - n = omega arith in e) ∙ slice_end n cs

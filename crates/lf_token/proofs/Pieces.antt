@@ -1,6 +1,8 @@
 use Rattle.std.proofs.Common.{◌≡◌, ℕ, ◌+◌, ◌-◌, ◌^◌, ◌≤◌, ◌<◌, List, [], ◌∷◌, length, get_or, take, drop, Bool, true, false, cond, ◌||◌, ◌&&◌, ◌==◌, not, refl, sym, ap, ◌∙◌, arith, subst, zero, suc, Option, Some, None, max}
-use Rattle.std.specs.Prelude.{nat_lt}
-use Rattle.std.specs.List.{list_all, prefix_len}
+use Rattle.std.specs.Prelude.{nat_lt, nat_eq, codes, unwrap_or, option_map}
+use Rattle.std.specs.List.{list_all, prefix_len, starts_with}
+use Rattle.std.proofs.lemmas.Slice.Eq.{bytes_eq-Decides}
+use Rattle.lf_text.specs.Place.{is_line_feed}
 use Rattle.std.specs.Char.{encode_utf8}
 use Rattle.std.specs.Str.{encode_utf8_all}
 use Rattle.std.specs.Str.Parse.{digits_value}
@@ -8,7 +10,7 @@ use Rattle.std.proofs.lemmas.List.{length-drop}
 use Rattle.lf_text.specs.declared.token.TokenKind.{TokenKind}
 use Rattle.lf_text.specs.declared.token.TokenKind.TheVariants as kind
 use Rattle.lf_text.specs.Words.{is_among, reserved_words, symbols}
-use Rattle.lf_text.specs.Lexemes.{is_digit, starts_part, is_name, is_numeral, is_bad_numeral, kind_of, token_at}
+use Rattle.lf_text.specs.Lexemes.{is_digit, starts_part, is_name, is_numeral, is_bad_numeral, is_white, through, comment_at, piece_at, kind_of, token_at}
 use Rattle.lf_token.specs.declared.shape.Shape.TheVariants.{Name, Numeral, BadNum, Symbol, BadChar}
 use Rattle.lf_token.specs.Scan.{tail_len, part_len, kind_by}
 use Rattle.lf_token.proofs.Logic.{and_left, and_right, false_from, if_true, if_false, token_is, bad_is, prefix_within}
@@ -178,3 +180,57 @@ pub bad_char_at : (cs : List ℕ) → 0 < length cs → starts_part (get_or cs 0
     ((m : ℕ) → 0 < m → m ≤ length cs → is_among symbols (encode_utf8_all (take m cs)) ≡ false) → token_at cs ≡ (Some kind.BadChar, 1)
 bad_char_at [] l e d longer = absurd (omega arith)
 bad_char_at (c ∷ cs) l e d longer = bad_char_token c cs e d longer
+
+-- What stands at the front, test by test.
+
+abbrev after_white : List ℕ → Option TokenKind × ℕ
+after_white cs =
+    cond (starts_with nat_eq cs (codes "--")) (None, prefix_len (λ x. not (is_line_feed x)) cs)
+    (cond (starts_with nat_eq cs (codes "/-")) (comment_at cs) (token_at cs))
+
+pub piece_white : (cs : List ℕ) → 0 < length cs → is_white (get_or cs 0 0) ≡ true → piece_at cs ≡ (None, 1)
+piece_white [] l e = absurd (omega arith)
+piece_white (c ∷ cs) l e = if_true (is_white c) (None, 1) (after_white (c ∷ cs)) e
+
+piece_black : (cs : List ℕ) → 0 < length cs → is_white (get_or cs 0 0) ≡ false → piece_at cs ≡ after_white cs
+piece_black [] l e = absurd (omega arith)
+piece_black (c ∷ cs) l e = if_false (is_white c) (None, 1) (after_white (c ∷ cs)) e
+
+pub piece_line : (cs : List ℕ) → 0 < length cs → is_white (get_or cs 0 0) ≡ false → starts_with nat_eq cs (codes "--") ≡ true →
+    piece_at cs ≡ (None, prefix_len (λ x. not (is_line_feed x)) cs)
+piece_line cs l e s =
+    piece_black cs l e
+    ∙ if_true (starts_with nat_eq cs (codes "--")) (None, prefix_len (λ x. not (is_line_feed x)) cs) (cond (starts_with nat_eq cs (codes "/-")) (comment_at cs) (token_at cs)) s
+
+pub piece_comment : (cs : List ℕ) → 0 < length cs → is_white (get_or cs 0 0) ≡ false → starts_with nat_eq cs (codes "--") ≡ false →
+    starts_with nat_eq cs (codes "/-") ≡ true → piece_at cs ≡ comment_at cs
+piece_comment cs l e s t =
+    piece_black cs l e
+    ∙ if_false (starts_with nat_eq cs (codes "--")) (None, prefix_len (λ x. not (is_line_feed x)) cs) (cond (starts_with nat_eq cs (codes "/-")) (comment_at cs) (token_at cs)) s
+    ∙ if_true (starts_with nat_eq cs (codes "/-")) (comment_at cs) (token_at cs) t
+
+pub piece_token : (cs : List ℕ) → 0 < length cs → is_white (get_or cs 0 0) ≡ false → starts_with nat_eq cs (codes "--") ≡ false →
+    starts_with nat_eq cs (codes "/-") ≡ false → piece_at cs ≡ token_at cs
+piece_token cs l e s t =
+    piece_black cs l e
+    ∙ if_false (starts_with nat_eq cs (codes "--")) (None, prefix_len (λ x. not (is_line_feed x)) cs) (cond (starts_with nat_eq cs (codes "/-")) (comment_at cs) (token_at cs)) s
+    ∙ if_false (starts_with nat_eq cs (codes "/-")) (comment_at cs) (token_at cs) t
+
+-- a line comment has characters
+pub line_some : (cs : List ℕ) → starts_with nat_eq cs (codes "--") ≡ true → 0 < prefix_len (λ x. not (is_line_feed x)) cs
+line_some [] e = cc
+line_some (c ∷ cs) e =
+    let same : codes "--" ≡ take 2 (c ∷ cs) = (bytes_eq-Decides (codes "--") (take 2 (c ∷ cs))).0 e in
+    let dash : 45 ≡ c = cc in
+    subst (λ (x : ℕ). 0 < cond (not (is_line_feed x)) (1 + prefix_len (λ y. not (is_line_feed y)) cs) 0) dash (omega arith)
+
+pub comment_two : (cs : List ℕ) → starts_with nat_eq cs (codes "/-") ≡ true → 2 ≤ length cs
+comment_two [] e = cc
+comment_two (c ∷ []) e = let same : codes "/-" ≡ take 2 (c ∷ []) = (bytes_eq-Decides (codes "/-") (take 2 (c ∷ []))).0 e in cc
+comment_two (c ∷ d ∷ cs) e = omega arith
+
+pub comment_some : (cs : List ℕ) (n : ℕ) → through 0 (drop 2 cs) ≡ Some n → comment_at cs ≡ (None, n + 2)
+comment_some cs n e = ap (λ (o : Option ℕ). unwrap_or (option_map (λ k. (None, k + 2)) o) (Some kind.OpenComment, length cs)) e
+
+pub comment_none : (cs : List ℕ) → through 0 (drop 2 cs) ≡ None → comment_at cs ≡ (Some kind.OpenComment, length cs)
+comment_none cs e = ap (λ (o : Option ℕ). unwrap_or (option_map (λ k. (None, k + 2)) o) (Some kind.OpenComment, length cs)) e

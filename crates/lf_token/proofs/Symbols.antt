@@ -204,3 +204,16 @@ chars_exact cs n bytes w before stop k v e =
       (λ (u : n ≤ k). let r : n ≡ k = omega arith in r)
       (cases_lt k n))
     (cases_lt n k)
+
+-- the bytes of the longest symbol are those of so many characters
+pub symbol_width : (cs rest : List ℕ) (bytes : ℕ) → rest ≡ encode_utf8_all cs → bytes ≡ longest_among symbols rest → bytes ≡ width (take (longest_in symbol_texts cs) cs)
+symbol_width cs rest bytes e b = b ∙ ap (longest_among symbols) e ∙ longest_width symbol_texts cs
+
+pub width_within : (cs : List ℕ) (n : ℕ) → n ≤ length cs → width (take n cs) ≤ width cs
+width_within cs n l =
+    let h : width (take n cs) ≤ width (take (length cs) cs) = width_rises n (length cs) cs l in
+    let e : take (length cs) cs ≡ cs = take-length cs in subst (λ (xs : List ℕ). width (take n cs) ≤ width xs) e h
+  where
+    take-length : (xs : List ℕ) → take (length xs) xs ≡ xs
+    take-length [] = refl
+    take-length (x ∷ xs) = ap (λ ys. x ∷ ys) (take-length xs)

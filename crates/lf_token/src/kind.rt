@@ -1,5 +1,6 @@
-ghost use Rattle.std.specs.Prelude.{◌≡◌, ℕ, ◌-◌, ◌^◌, ◌≤◌, ◌<◌, Some, None, nat_lt, if◌then◌else◌, IsTrue};
+ghost use Rattle.std.specs.Prelude.{◌≡◌, ℕ, ◌+◌, ◌*◌, ◌-◌, ◌^◌, ◌≤◌, ◌<◌, Some, None, nat_lt, if◌then◌else◌, IsTrue};
 ghost use Rattle.std.specs.List.{list_all};
+ghost use Rattle.std.specs.Option.{SomeIff};
 ghost use Rattle.std.specs.Str.{encode_utf8_all};
 ghost use Rattle.std.specs.Str.Parse.{digits_value};
 ghost use Rattle.std.specs.Char.{digit_value};
@@ -18,6 +19,16 @@ fn digit_of(c: char) -> u128
     (c as u32 - '0' as u32) as u128
 }
 
+/// The number with a digit more, where it is below 2^128.
+fn append(value: u128, digit: u128) -> Option<u128>
+    ensures { SomeIff result (value * 10 + digit < 2 ^ 128) (value * 10 + digit) }
+{
+    match value.checked_mul(10) {
+        Some(tens) => tens.checked_add(digit),
+        None => None,
+    }
+}
+
 /// The number that the digits write, where it is below 2^128.
 fn number(cs: &[char]) -> Option<u128>
     requires { IsTrue (list_all is_digit cs.now) }
@@ -25,8 +36,10 @@ fn number(cs: &[char]) -> Option<u128>
 {
     let mut value: u128 = 0;
     'digits: for c in cs {
-        let digit = digit_of(*c);
-        value = value.checked_mul(10)?.checked_add(digit)?;
+        match append(value, digit_of(*c)) {
+            Some(next) => value = next,
+            None => return None,
+        }
     }
     Some(value)
 }

@@ -75,16 +75,18 @@ pub fn line_len(cs: &[char]) -> usize
     cs.iter().take_while(|c| **c != '\n').count()
 }
 
-fn opens_comment(a: char, b: char) -> bool
-    ensures { result ≡ (a == 47 && b == 45) }
+fn opens_comment(cs: &[char], n: usize) -> bool
+    requires { n + 1 < length cs.now }
+    ensures { result ≡ (slice_index cs.now n == 47 && slice_index cs.now (n + 1) == 45) }
 {
-    a == '/' && b == '-'
+    cs[n] == '/' && cs[n + 1] == '-'
 }
 
-fn closes_comment(a: char, b: char) -> bool
-    ensures { result ≡ (a == 45 && b == 47) }
+fn closes_comment(cs: &[char], n: usize) -> bool
+    requires { n + 1 < length cs.now }
+    ensures { result ≡ (slice_index cs.now n == 45 && slice_index cs.now (n + 1) == 47) }
 {
-    a == '-' && b == '/'
+    cs[n] == '-' && cs[n + 1] == '/'
 }
 
 /// Behind the `/-` of a comment: how many characters there are through its own `-/`.
@@ -95,11 +97,10 @@ pub fn comment_len(cs: &[char]) -> Option<usize>
     let mut depth: usize = 0;
     let mut n = 0;
     'characters: while n + 1 < cs.len() {
-        let (a, b) = (cs[n], cs[n + 1]);
-        if opens_comment(a, b) {
+        if opens_comment(cs, n) {
             depth += 1;
             n += 2;
-        } else if closes_comment(a, b) {
+        } else if closes_comment(cs, n) {
             n += 2;
             if depth == 0 {
                 return Some(n);
