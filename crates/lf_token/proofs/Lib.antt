@@ -1,5 +1,7 @@
 pub mod Comments
 pub mod Digits
+pub mod Frames
+pub mod LinePlaces
 pub mod Logic
 pub mod Names
 pub mod Numerals

@@ -1,2 +1,4 @@
+pub mod Places
+pub mod Rules
 pub mod Scan
 pub mod Spelling

@@ -3,9 +3,11 @@
 
 mod characters;
 mod kind;
+mod place;
 mod role;
 mod scan;
 mod shape;
+mod stack;
 mod words;
 
 pub use lf_text::{Token, TokenKind};
