@@ -1,3 +1,5 @@
+ghost use Rattle.lf_token.specs.Rules.{Tells};
+
 use lf_tables::{Table, rows};
 
 /// What a token is to the layout rules.
@@ -20,7 +22,9 @@ pub enum Role {
 }
 
 /// The role of a token that is spelled so.
-pub fn role_of(text: &str) -> Role {
+pub fn role_of(text: &str) -> Role
+    ensures { Tells result text.now }
+{
     let rows = rows! {
         "#check" => Role::Command,
         "#eval" => Role::Command,
