@@ -5,6 +5,7 @@ pub mod LinePlaces
 pub mod Logic
 pub mod Names
 pub mod Numerals
+pub mod Prefixes
 pub mod Roles
 pub mod Spellings
 pub mod Pieces

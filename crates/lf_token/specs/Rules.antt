@@ -1,8 +1,9 @@
-use Rattle.std.specs.Prelude.{◌≡◌, ℕ, List, [], ◌∷◌, ◌++◌, Bool, true, false, not, ◌&&◌, ◌||◌, if◌then◌else◌, bytes_eq, drop}
+use Rattle.std.specs.Prelude.{◌≡◌, ℕ, List, [], ◌∷◌, ◌++◌, Bool, true, false, not, ◌&&◌, ◌||◌, if◌then◌else◌, bytes_eq, drop, replicate}
 use Rattle.lf_text.specs.declared.token.Token.{Token}
 use Rattle.lf_text.specs.declared.frame.Frame.TheVariants.{Bracket}
 use Rattle.lf_text.specs.Words.{utf8, is_among, begins_command, block_openers, opening_brackets, closing_brackets}
-use Rattle.lf_text.specs.Layout.{Put, close, open_block, new_line, blocks_above, has_bracket}
+use Rattle.lf_text.specs.Layout.{Put, close, open_block, new_line, blocks, blocks_above, has_bracket, mark}
+use Rattle.lf_text.specs.declared.token.TokenKind.TheVariants.{Close}
 use Rattle.lf_token.specs.declared.role.Role.{Role}
 use Rattle.lf_token.specs.declared.role.Role.TheVariants.{Command, BlockOpener, Where, Bar, Opening, Closing, Other}
 
@@ -64,3 +65,9 @@ put_by at column role opens first put =
 abbrev pub push_by : Token → Role → Put → Put
 push_by token role put =
     record { tokens = put.tokens ++ token ∷ []; frames = if is_opening role then Bracket ∷ put.frames else put.frames }
+
+-- what is put before a token, the end of a command included, whose last token ends at a place
+abbrev pub led_by : ℕ → ℕ → ℕ → Role → Bool → Bool → Put → Put
+led_by at column end role opens first put =
+    if is_command role then record { tokens = put.tokens ++ replicate (blocks put.frames) (mark Close end); frames = [] }
+    else put_by at column role opens first put

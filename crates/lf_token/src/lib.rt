@@ -3,6 +3,7 @@
 
 mod characters;
 mod kind;
+mod layout;
 mod place;
 mod role;
 mod scan;

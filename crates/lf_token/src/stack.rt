@@ -2,6 +2,7 @@ ghost use Rattle.std.specs.Prelude.{◌≡◌, ◌+◌, ◌≤◌, drop, true, �
 ghost use Rattle.std.specs.List.{prefix_len};
 ghost use Rattle.lf_text.specs.Layout.{mark, is_block, is_deeper, is_block_at};
 
+use crate::place::Place;
 use crate::role::Role;
 use lf_core::NoMemory;
 use lf_text::{Frame, Token, TokenKind};
@@ -94,7 +95,7 @@ fn is_block_at(frames: &[Frame], column: usize) -> bool
 
 impl Stack {
     ghost use Rattle.lf_text.specs.Layout.{Put, nothing, blocks, blocks_above, has_bracket, close, open_block, part_items, new_line};
-    ghost use Rattle.lf_token.specs.Rules.{where_by, leave_bracket, closing_by, put_by, push_by};
+    ghost use Rattle.lf_token.specs.Rules.{where_by, leave_bracket, closing_by, put_by, led_by, push_by};
 
     /// No tokens, and nothing open.
     pub fn new(alloc: Global) -> Stack
@@ -186,7 +187,7 @@ impl Stack {
     }
 
     /// What the rules put before a token inside a command.
-    pub fn put_before(
+    fn put_before(
         &mut self,
         at: usize,
         column: usize,
@@ -215,6 +216,23 @@ impl Stack {
         self.frames.clear();
         self.brackets = 0;
         Ok(())
+    }
+
+    /// What the rules put before a token; `end` is the place where the last token ends.
+    pub fn lead(
+        &mut self,
+        place: Place,
+        end: usize,
+        role: Role,
+        opens: bool,
+        first: bool,
+    ) -> Result<(), NoMemory>
+        ensures { OnOk result (self.new ≡ led_by place.at place.column end role opens first self.old) }
+    {
+        match role {
+            Role::Command => self.end_command(end),
+            _ => self.put_before(place.at, place.column, role, opens, first),
+        }
     }
 
     /// A token of the text.
