@@ -1,6 +1,7 @@
 pub mod Comments
 pub mod Digits
 pub mod Frames
+pub mod Goings
 pub mod LinePlaces
 pub mod Logic
 pub mod Names
@@ -11,3 +12,4 @@ pub mod Spellings
 pub mod Pieces
 pub mod Steps
 pub mod Symbols
+pub mod Walks

@@ -1,5 +1,7 @@
-ghost use Rattle.std.specs.Prelude.{List, ℕ, ◌+◌, ◌*◌, ◌^◌, ◌<◌, ◌≤◌, ◌++◌, ◌∷◌, [], length};
+ghost use Rattle.std.specs.Prelude.{◌≡◌, List, ℕ, ◌+◌, ◌*◌, ◌^◌, ◌<◌, ◌≤◌, ◌++◌, ◌∷◌, [], length};
+ghost use Rattle.std.specs.Char.{len_utf8};
 ghost use Rattle.lf_token.specs.Places.{IsAt};
+ghost use Rattle.lf_token.specs.Spelling.{width};
 
 /// A place in a text: the bytes before it, its line and its column.
 #[derive(Clone, Copy, Debug, PartialEq, Eq)]
@@ -15,7 +17,8 @@ fn past_one(place: Place, c: char) -> Place
     requires line { place.line + 1 < 2 ^ 64 }
     requires column { place.column + 1 < 2 ^ 64 }
     ensures place { (before : List ℕ) → IsAt before place → IsAt (before ++ c ∷ []) result }
-    ensures at { result.at ≤ place.at + 4 }
+    ensures at { result.at ≡ place.at + len_utf8 c }
+    ensures near { result.at ≤ place.at + 4 }
     ensures line { result.line ≤ place.line + 1 }
     ensures column { result.column ≤ place.column + 1 }
 {
@@ -40,7 +43,8 @@ pub fn past(place: Place, cs: &[char]) -> Place
     requires at { place.at + 4 * length cs.now < 2 ^ 64 }
     requires line { place.line + length cs.now < 2 ^ 64 }
     requires column { place.column + length cs.now < 2 ^ 64 }
-    ensures { (before : List ℕ) → IsAt before place → IsAt (before ++ cs.now) result }
+    ensures place { (before : List ℕ) → IsAt before place → IsAt (before ++ cs.now) result }
+    ensures at { result.at ≡ place.at + width cs.now }
 {
     let mut end = place;
     'characters: for c in cs {
