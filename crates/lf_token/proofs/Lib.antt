@@ -8,6 +8,7 @@ pub mod Names
 pub mod Numerals
 pub mod Prefixes
 pub mod Roles
+pub mod Rooms
 pub mod Spellings
 pub mod Pieces
 pub mod Steps
