@@ -1,7 +1,6 @@
 pub mod Comments
 pub mod Digits
 pub mod Frames
-pub mod Goings
 pub mod LinePlaces
 pub mod Logic
 pub mod Names
@@ -13,4 +12,5 @@ pub mod Spellings
 pub mod Pieces
 pub mod Steps
 pub mod Symbols
+pub mod Turns
 pub mod Walks
