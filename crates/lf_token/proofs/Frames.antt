@@ -17,9 +17,9 @@ reverse_truncate xs n l =
     let k : ℕ = length xs - n in
     let all : take (length xs - n) xs ++ drop (length xs - n) xs ≡ xs = take-append-drop (length xs - n) xs in
     let turned : reverse xs ≡ reverse (drop (length xs - n) xs) ++ reverse (take (length xs - n) xs) =
-      ap reverse (sym all) ∙ reverse-append (take (length xs - n) xs) (drop (length xs - n) xs) in
+    ap reverse (sym all) ∙ reverse-append (take (length xs - n) xs) (drop (length xs - n) xs) in
     let len : length (reverse (drop (length xs - n) xs)) ≡ n =
-      length-reverse (drop (length xs - n) xs) ∙ length-drop (length xs - n) xs ∙ (let e : length xs - (length xs - n) ≡ n = omega arith in e) in
+    length-reverse (drop (length xs - n) xs) ∙ length-drop (length xs - n) xs ∙ (let e : length xs - (length xs - n) ≡ n = omega arith in e) in
     sym (ap (drop n) turned
     ∙ ap (λ (m : ℕ). drop m (reverse (drop (length xs - n) xs) ++ reverse (take (length xs - n) xs))) (sym len)
     ∙ drop-append_seam (reverse (drop (length xs - n) xs)) (reverse (take (length xs - n) xs)))
@@ -80,7 +80,7 @@ none_above (Bracket ∷ fs) = refl
 pub bracket_left : (put put' : Put) (at : ℕ) → put' ≡ close at (prefix_len is_block put.frames) put → 0 < count_by is_bracket put.frames → nat_lt 0 (count_by is_bracket put'.frames) ≡ true
 bracket_left put put' at e l =
     let same : count_by is_bracket put.frames ≡ count_by is_bracket put'.frames =
-      count_drop (prefix_len is_block put.frames) put.frames (omega arith) ∙ ap (λ (p : Put). count_by is_bracket p.frames) (sym e) in
+    count_drop (prefix_len is_block put.frames) put.frames (omega arith) ∙ ap (λ (p : Put). count_by is_bracket p.frames) (sym e) in
     lt-ltb 0 (count_by is_bracket put'.frames) (omega arith)
 
 pub top_left : (put put' : Put) (at : ℕ) → put' ≡ close at (prefix_len is_block put.frames) put → prefix_len is_block put'.frames ≡ 0

@@ -25,7 +25,7 @@ pub last_goes_on : (p : ℕ → Bool) (xs : List ℕ) (x : ℕ) → p x ≡ fals
 last_goes_on p xs x e =
     let q : ℕ → Bool = λ y. not (p y) in
     let s : suffix_len (λ y. not (p y)) (xs ++ x ∷ []) ≡ 1 + suffix_len (λ y. not (p y)) xs =
-      suffix_push (λ y. not (p y)) xs x ∙ if_true (not (p x)) (1 + suffix_len (λ y. not (p y)) xs) 0 (ap not e) in
+    suffix_push (λ y. not (p y)) xs x ∙ if_true (not (p x)) (1 + suffix_len (λ y. not (p y)) xs) 0 (ap not e) in
     let len : length (xs ++ x ∷ []) ≡ length xs + 1 = length-append xs (x ∷ []) in
     let w : suffix_len (λ y. not (p y)) xs ≤ length xs = suffix_len-le-length (λ y. not (p y)) xs in
     let n : length (xs ++ x ∷ []) - suffix_len (λ y. not (p y)) (xs ++ x ∷ []) ≡ length xs - suffix_len (λ y. not (p y)) xs = omega arith in
@@ -63,7 +63,7 @@ count_append xs ys = sym (feeds_count (xs ++ ys)) ∙ feeds_append xs ys ∙ ap 
 width_push : (before : List ℕ) (c : ℕ) → width (before ++ c ∷ []) ≡ width before + len_utf8 c
 width_push before c =
     let a : width (before ++ c ∷ []) ≡ width before + length (encode_utf8_all (c ∷ [])) =
-      ap length (encodes-append before (c ∷ [])) ∙ length-append (encode_utf8_all before) (encode_utf8_all (c ∷ [])) in
+    ap length (encodes-append before (c ∷ [])) ∙ length-append (encode_utf8_all before) (encode_utf8_all (c ∷ [])) in
     let b : length (encode_utf8_all (c ∷ [])) ≡ length (encode_utf8 c) + 0 = length-append (encode_utf8 c) [] in
     let e : length (encode_utf8 c) ≡ len_utf8 c = length-encode c in omega arith
 
@@ -73,7 +73,7 @@ pub at_feed : (before : List ℕ) (place : Place) (c len : ℕ) → (c == 10) �
 at_feed before place c len e l h = record {
   at = let w : width (before ++ c ∷ []) ≡ width before + len_utf8 c = width_push before c in omega (arith, h.at);
   line = let n : count_by is_line_feed (before ++ c ∷ []) ≡ count_by is_line_feed before + feeds (c ∷ []) = count_append before (c ∷ []) in
-    let one : feeds (c ∷ []) ≡ 1 = if_true (is_line_feed c) (1 + 0) 0 e in omega (arith, h.line);
+      let one : feeds (c ∷ []) ≡ 1 = if_true (is_line_feed c) (1 + 0) 0 e in omega (arith, h.line);
   column = sym (ap length (last_ends is_line_feed before c e));
 }
 
@@ -83,10 +83,10 @@ pub at_other : (before : List ℕ) (place : Place) (c len : ℕ) → (c == 10) �
 at_other before place c len e l h = record {
   at = let w : width (before ++ c ∷ []) ≡ width before + len_utf8 c = width_push before c in omega (arith, h.at);
   line = let n : count_by is_line_feed (before ++ c ∷ []) ≡ count_by is_line_feed before + feeds (c ∷ []) = count_append before (c ∷ []) in
-    let none : feeds (c ∷ []) ≡ 0 = if_false (is_line_feed c) (1 + 0) 0 e in omega (arith, h.line);
+      let none : feeds (c ∷ []) ≡ 0 = if_false (is_line_feed c) (1 + 0) 0 e in omega (arith, h.line);
   column = let n : length (after_last is_line_feed (before ++ c ∷ [])) ≡ length (after_last is_line_feed before ++ c ∷ []) = ap length (last_goes_on is_line_feed before c e) in
-    let len : length (after_last is_line_feed before ++ c ∷ []) ≡ length (after_last is_line_feed before) + 1 = length-append (after_last is_line_feed before) (c ∷ []) in
-    omega (arith, h.column);
+      let len : length (after_last is_line_feed before ++ c ∷ []) ≡ length (after_last is_line_feed before) + 1 = length-append (after_last is_line_feed before) (c ∷ []) in
+      omega (arith, h.column);
 }
 
 pub take_whole : (n : ℕ) (cs : List ℕ) → length cs ≤ n → take n cs ≡ cs

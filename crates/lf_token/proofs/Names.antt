@@ -38,8 +38,8 @@ starts_continue c e =
     let front : c == 95 || is_xid_start c ≡ true = and_left (c == 95 || is_xid_start c) (not (is_apart c)) e in
     let apart : not (is_apart c) ≡ true = and_right (c == 95 || is_xid_start c) (not (is_apart c)) e in
     let inside : is_xid_continue c ≡ true =
-      ⊎_elim (λ (u : (c == 95) ≡ true). subst (λ (x : ℕ). is_xid_continue x ≡ true) (sym (eqb-true c 95 u)) underscore)
-      (λ (u : is_xid_start c ≡ true). is_xid_start-is_xid_continue c u) (or_cases (c == 95) (is_xid_start c) front) in
+    ⊎_elim (λ (u : (c == 95) ≡ true). subst (λ (x : ℕ). is_xid_continue x ≡ true) (sym (eqb-true c 95 u)) underscore)
+    (λ (u : is_xid_start c ≡ true). is_xid_start-is_xid_continue c u) (or_cases (c == 95) (is_xid_start c) front) in
     and_both (is_xid_continue c || c == 39 || c == 33 || c == 63 || (nat_le 8320 c && nat_le c 8329)) (not (is_apart c))
     (or_left (is_xid_continue c || c == 39 || c == 33 || c == 63) (nat_le 8320 c && nat_le c 8329)
     (or_left (is_xid_continue c || c == 39 || c == 33) (c == 63)

@@ -21,9 +21,9 @@ unfolding starts_part
 digit_starts c e =
     let low : c ≤ 57 = leb-true c 57 (and_right (nat_le 48 c) (nat_le c 57) e) in
     let xid : is_xid_start c ≡ false =
-      is_xid_start-ascii c (omega arith)
-      ∙ or_false (nat_le 65 c && nat_le c 90) (nat_le 97 c && nat_le c 122)
-      (and_false (nat_le 65 c) (nat_le c 90) (below_false 65 c (omega arith))) (and_false (nat_le 97 c) (nat_le c 122) (below_false 97 c (omega arith))) in
+    is_xid_start-ascii c (omega arith)
+    ∙ or_false (nat_le 65 c && nat_le c 90) (nat_le 97 c && nat_le c 122)
+    (and_false (nat_le 65 c) (nat_le c 90) (below_false 65 c (omega arith))) (and_false (nat_le 97 c) (nat_le c 122) (below_false 97 c (omega arith))) in
     and_false (c == 95 || is_xid_start c) (not (is_apart c)) (or_false (c == 95) (is_xid_start c) (neq_false c 95 (omega arith)) xid)
 
 -- what starts with no digit is no numeral
@@ -70,7 +70,7 @@ bad_part cs m some l w =
     let e : digits (take m cs) ≡ digits cs = prefix_take is_digit cs m l in
     let same : take (digits cs) (take m cs) ≡ take (digits cs) cs = take_take (digits cs) m cs l in
     let rest : drop (digits cs) (take m cs) ≡ take (m - digits cs) (drop (digits cs) cs) =
-      (let a : digits cs + (m - digits cs) ≡ m = omega arith in ap (λ (k : ℕ). drop (digits cs) (take k cs)) (sym a) ∙ drop-take (digits cs) (m - digits cs) cs) in
+    (let a : digits cs + (m - digits cs) ≡ m = omega arith in ap (λ (k : ℕ). drop (digits cs) (take k cs)) (sym a) ∙ drop-take (digits cs) (m - digits cs) cs) in
     ap (λ (k : ℕ). is_numeral (take k (take m cs)) && is_part (drop k (take m cs))) e
     ∙ ap (λ (xs : List ℕ). is_numeral xs && is_part (drop (digits cs) (take m cs))) same
     ∙ and_first (is_numeral (take (digits cs) cs)) (is_part (drop (digits cs) (take m cs))) (numeral_front cs some)
@@ -100,7 +100,7 @@ part_longer (c ∷ cs) (suc m) l w =
     false_from (is_part (c ∷ take m cs)) (λ e.
     let start : starts_part c ≡ true = and_left (starts_part c) (list_all continues_part (take m cs)) e in
     let short : m ≤ prefix_len continues_part cs =
-      all_bound continues_part cs m (omega arith) (and_right (starts_part c) (list_all continues_part (take m cs)) e) in
+    all_bound continues_part cs m (omega arith) (and_right (starts_part c) (list_all continues_part (take m cs)) e) in
     let long : cond true (prefix_len continues_part cs + 1) 0 < suc m = subst (λ (b : Bool). cond b (prefix_len continues_part cs + 1) 0 < suc m) start l in
     absurd (omega arith))
 

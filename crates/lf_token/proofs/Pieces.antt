@@ -117,13 +117,13 @@ bad_token c cs e part =
     let some : 0 < prefix_len is_digit (c ∷ cs) = digits_some c cs e in
     let within : prefix_len is_digit (c ∷ cs) ≤ length (c ∷ cs) = prefix_within is_digit (c ∷ cs) in
     let rest : part_len (drop (prefix_len is_digit (c ∷ cs)) (c ∷ cs)) ≤ length (drop (prefix_len is_digit (c ∷ cs)) (c ∷ cs)) =
-      part_within (drop (prefix_len is_digit (c ∷ cs)) (c ∷ cs)) in
+    part_within (drop (prefix_len is_digit (c ∷ cs)) (c ∷ cs)) in
     let len : length (drop (prefix_len is_digit (c ∷ cs)) (c ∷ cs)) ≡ length (c ∷ cs) - prefix_len is_digit (c ∷ cs) = length-drop (prefix_len is_digit (c ∷ cs)) (c ∷ cs) in
     let all : prefix_len is_digit (c ∷ cs) + part_len (drop (prefix_len is_digit (c ∷ cs)) (c ∷ cs)) ≤ length (c ∷ cs) = omega arith in
     token_is (c ∷ cs) (d + part_len (drop d (c ∷ cs))) kind.BadNum (omega arith) all
     (digit_behind c cs (d + part_len (drop d (c ∷ cs))) e (omega arith)
     ∙ bad_kind (take (d + part_len (drop d (c ∷ cs))) (c ∷ cs)) (numeral_longer (c ∷ cs) (d + part_len (drop d (c ∷ cs))) (omega arith) all)
-      (bad_front (c ∷ cs) some part all))
+    (bad_front (c ∷ cs) some part all))
     (λ m l w. digit_none c cs m e l w)
 
 other_behind : (c : ℕ) (cs : List ℕ) (m : ℕ) → starts_part c ≡ false → 0 < m → kind_of (take m (c ∷ cs)) ≡ behind_names (take m (c ∷ cs))

@@ -53,8 +53,8 @@ inner_after done at column role opens first put =
     cond_after done opens (λ p. where_by at role (open_block at column p)) (λ p. cond first (new_line at column (where_by at role p)) (where_by at role p)) put
     (ap (where_by at role) (open_after done at column put) ∙ where_after done at role (open_block at column put))
     (cond_after done first (λ p. new_line at column (where_by at role p)) (where_by at role) put
-      (ap (new_line at column) (where_after done at role put) ∙ line_after done at column (where_by at role put))
-      (where_after done at role put))
+    (ap (new_line at column) (where_after done at role put) ∙ line_after done at column (where_by at role put))
+    (where_after done at role put))
 
 put_after : (done : List Token) (at column : ℕ) (role : Role) (opens first : Bool) (put : Put) →
     put_by at column role opens first (prepend done put) ≡ prepend done (put_by at column role opens first put)
@@ -88,7 +88,7 @@ whole put = ap (λ ts. put_of ts put.frames) (sym (append-nil put.tokens))
 
 led_step : (bytes : List ℕ) (previous : Token) (put : Put) (t : Token) (before role : Role) (b : Bool) → Tells before (spelled bytes previous) → Tells role (spelled bytes t) →
     cond b (record { tokens = put.tokens ++ replicate (blocks put.frames) (mark Close (previous.at + previous.len)); frames = [] })
-      (put_by t.at (column_of bytes t.at) role (opens_by before role) (is_first bytes previous t) put)
+    (put_by t.at (column_of bytes t.at) role (opens_by before role) (is_first bytes previous t) put)
     ≡ prepend put.tokens (cond b (record { tokens = replicate (blocks put.frames) (mark Close (previous.at + previous.len)); frames = [] }) (put_inside bytes previous put.frames t))
 led_step bytes previous put t before role true p r = refl
 led_step bytes previous put t before role false p r =

@@ -21,7 +21,7 @@ room_of text at end n cs l e s w f =
     let part : width (take n cs) ≤ width cs = width_within cs n w in
     let within : end ≤ length text = omega arith in
     let behind : drop end text ≡ encode_utf8_all (drop n cs) =
-      ap (λ (k : ℕ). drop k text) f ∙ sym (drop-drop (width (take n cs)) at text) ∙ ap (drop (width (take n cs))) e ∙ drop_width n cs in
+    ap (λ (k : ℕ). drop k text) f ∙ sym (drop-drop (width (take n cs)) at text) ∙ ap (drop (width (take n cs))) e ∙ drop_width n cs in
     record {
       within = within;
       from = IsCharBoundary-from_drop text at l (cs, (s, sym e));

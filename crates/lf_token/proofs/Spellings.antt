@@ -41,8 +41,8 @@ among_passes p [] cs all e = absurd (true_false e)
 among_passes p (text ∷ texts) cs all e =
     ⊎_elim
     (λ (here : bytes_eq (encode_utf8_all text) (encode_utf8_all cs) ≡ true).
-      let same : text ≡ cs = encodes_same text cs ((bytes_eq-Decides (encode_utf8_all text) (encode_utf8_all cs)).0 here) in
-      subst (λ (xs : List ℕ). p xs ≡ true) same (and_left (p text) (list_all p texts) all))
+    let same : text ≡ cs = encodes_same text cs ((bytes_eq-Decides (encode_utf8_all text) (encode_utf8_all cs)).0 here) in
+    subst (λ (xs : List ℕ). p xs ≡ true) same (and_left (p text) (list_all p texts) all))
     (λ (later : is_among (map encode_utf8_all texts) (encode_utf8_all cs) ≡ true). among_passes p texts cs (and_right (p text) (list_all p texts) all) later)
     (or_cases (bytes_eq (encode_utf8_all text) (encode_utf8_all cs)) (is_among (map encode_utf8_all texts) (encode_utf8_all cs)) e)
 

@@ -56,17 +56,17 @@ starts_same : (key cs : List ℕ) → starts_with nat_eq (encode_utf8_all cs) (e
 starts_same key cs =
     same_test (starts_with nat_eq (encode_utf8_all cs) (encode_utf8_all key)) (starts_with nat_eq cs key)
     (λ e.
-      let front : encode_utf8_all key ≡ take (length (encode_utf8_all key)) (encode_utf8_all cs) = bytes_same (encode_utf8_all key) (take (length (encode_utf8_all key)) (encode_utf8_all cs)) e in
-      let (ds, same) = begins key cs (drop (length (encode_utf8_all key)) (encode_utf8_all cs))
-        (sym (take-append-drop (length (encode_utf8_all key)) (encode_utf8_all cs)) ∙ ap (λ xs. xs ++ drop (length (encode_utf8_all key)) (encode_utf8_all cs)) (sym front)) in
-      same_bytes key (take (length key) cs) (sym (ap (take (length key)) same ∙ take-append_seam key ds)))
+    let front : encode_utf8_all key ≡ take (length (encode_utf8_all key)) (encode_utf8_all cs) = bytes_same (encode_utf8_all key) (take (length (encode_utf8_all key)) (encode_utf8_all cs)) e in
+    let (ds, same) = begins key cs (drop (length (encode_utf8_all key)) (encode_utf8_all cs))
+    (sym (take-append-drop (length (encode_utf8_all key)) (encode_utf8_all cs)) ∙ ap (λ xs. xs ++ drop (length (encode_utf8_all key)) (encode_utf8_all cs)) (sym front)) in
+    same_bytes key (take (length key) cs) (sym (ap (take (length key)) same ∙ take-append_seam key ds)))
     (λ e.
-      let front : key ≡ take (length key) cs = bytes_same key (take (length key) cs) e in
-      let all : cs ≡ key ++ drop (length key) cs = sym (take-append-drop (length key) cs) ∙ ap (λ xs. xs ++ drop (length key) cs) (sym front) in
-      same_bytes (encode_utf8_all key) (take (length (encode_utf8_all key)) (encode_utf8_all cs))
-      (sym (ap (λ xs. take (length (encode_utf8_all key)) (encode_utf8_all xs)) all
-      ∙ ap (take (length (encode_utf8_all key))) (encodes-append key (drop (length key) cs))
-      ∙ take-append_seam (encode_utf8_all key) (encode_utf8_all (drop (length key) cs)))))
+    let front : key ≡ take (length key) cs = bytes_same key (take (length key) cs) e in
+    let all : cs ≡ key ++ drop (length key) cs = sym (take-append-drop (length key) cs) ∙ ap (λ xs. xs ++ drop (length key) cs) (sym front) in
+    same_bytes (encode_utf8_all key) (take (length (encode_utf8_all key)) (encode_utf8_all cs))
+    (sym (ap (λ xs. take (length (encode_utf8_all key)) (encode_utf8_all xs)) all
+    ∙ ap (take (length (encode_utf8_all key))) (encodes-append key (drop (length key) cs))
+    ∙ take-append_seam (encode_utf8_all key) (encode_utf8_all (drop (length key) cs)))))
 
 -- how far a text of characters reaches
 abbrev reach_in : List ℕ → List ℕ → ℕ
@@ -109,11 +109,11 @@ width_max : (a b : ℕ) (cs : List ℕ) → max (width (take a cs)) (width (take
 width_max a b cs =
     ⊎_elim
     (λ (l : a < b). let h : width (take a cs) ≤ width (take b cs) = width_rises a b cs (omega arith) in
-      let e : max a b ≡ b = omega arith in
-      let f : max (width (take a cs)) (width (take b cs)) ≡ width (take b cs) = omega arith in f ∙ ap (λ (n : ℕ). width (take n cs)) (sym e))
+    let e : max a b ≡ b = omega arith in
+    let f : max (width (take a cs)) (width (take b cs)) ≡ width (take b cs) = omega arith in f ∙ ap (λ (n : ℕ). width (take n cs)) (sym e))
     (λ (l : b ≤ a). let h : width (take b cs) ≤ width (take a cs) = width_rises b a cs l in
-      let e : max a b ≡ a = omega arith in
-      let f : max (width (take a cs)) (width (take b cs)) ≡ width (take a cs) = omega arith in f ∙ ap (λ (n : ℕ). width (take n cs)) (sym e))
+    let e : max a b ≡ a = omega arith in
+    let f : max (width (take a cs)) (width (take b cs)) ≡ width (take a cs) = omega arith in f ∙ ap (λ (n : ℕ). width (take n cs)) (sym e))
     (cases_lt a b)
 
 -- The longest symbol
@@ -155,16 +155,16 @@ longest_taken [] cs l = absurd (omega arith)
 longest_taken (text ∷ texts) cs l =
     ⊎_elim
     (λ (u : reach_in text cs < longest_in texts cs).
-      let e : longest_in texts cs ≡ max (reach_in text cs) (longest_in texts cs) = omega arith in
-      subst (λ (n : ℕ). is_among (map encode_utf8_all (text ∷ texts)) (encode_utf8_all (take n cs)) ≡ true) e
-      (or_right (bytes_eq (encode_utf8_all text) (encode_utf8_all (take (longest_in texts cs) cs)))
-        (is_among (map encode_utf8_all texts) (encode_utf8_all (take (longest_in texts cs) cs))) (longest_taken texts cs (omega arith))))
+    let e : longest_in texts cs ≡ max (reach_in text cs) (longest_in texts cs) = omega arith in
+    subst (λ (n : ℕ). is_among (map encode_utf8_all (text ∷ texts)) (encode_utf8_all (take n cs)) ≡ true) e
+    (or_right (bytes_eq (encode_utf8_all text) (encode_utf8_all (take (longest_in texts cs) cs)))
+    (is_among (map encode_utf8_all texts) (encode_utf8_all (take (longest_in texts cs) cs))) (longest_taken texts cs (omega arith))))
     (λ (u : longest_in texts cs ≤ reach_in text cs).
-      let e : reach_in text cs ≡ max (reach_in text cs) (longest_in texts cs) = omega arith in
-      subst (λ (n : ℕ). is_among (map encode_utf8_all (text ∷ texts)) (encode_utf8_all (take n cs)) ≡ true) e
-      (or_left (bytes_eq (encode_utf8_all text) (encode_utf8_all (take (reach_in text cs) cs)))
-        (is_among (map encode_utf8_all texts) (encode_utf8_all (take (reach_in text cs) cs)))
-        (reach_taken text cs (starts_with nat_eq cs text) refl (omega arith))))
+    let e : reach_in text cs ≡ max (reach_in text cs) (longest_in texts cs) = omega arith in
+    subst (λ (n : ℕ). is_among (map encode_utf8_all (text ∷ texts)) (encode_utf8_all (take n cs)) ≡ true) e
+    (or_left (bytes_eq (encode_utf8_all text) (encode_utf8_all (take (reach_in text cs) cs)))
+    (is_among (map encode_utf8_all texts) (encode_utf8_all (take (reach_in text cs) cs)))
+    (reach_taken text cs (starts_with nat_eq cs text) refl (omega arith))))
     (cases_lt (reach_in text cs) (longest_in texts cs))
 
 -- and no longer front is one
@@ -174,10 +174,10 @@ longest_passed [] cs m l w = refl
 longest_passed (text ∷ texts) cs m l w =
     or_false (bytes_eq (encode_utf8_all text) (encode_utf8_all (take m cs))) (is_among (map encode_utf8_all texts) (encode_utf8_all (take m cs)))
     (false_from (bytes_eq (encode_utf8_all text) (encode_utf8_all (take m cs))) (λ e.
-      let same : text ≡ take m cs = encodes_same text (take m cs) (bytes_same (encode_utf8_all text) (encode_utf8_all (take m cs)) e) in
-      let len : length text ≡ m = ap length same ∙ length-take-le m cs w in
-      let starts : starts_with nat_eq cs text ≡ true = same_bytes text (take (length text) cs) (same ∙ ap (λ (n : ℕ). take n cs) (sym len)) in
-      let far : reach_in text cs ≡ length text = if_true (starts_with nat_eq cs text) (length text) 0 starts in absurd (omega arith)))
+    let same : text ≡ take m cs = encodes_same text (take m cs) (bytes_same (encode_utf8_all text) (encode_utf8_all (take m cs)) e) in
+    let len : length text ≡ m = ap length same ∙ length-take-le m cs w in
+    let starts : starts_with nat_eq cs text ≡ true = same_bytes text (take (length text) cs) (same ∙ ap (λ (n : ℕ). take n cs) (sym len)) in
+    let far : reach_in text cs ≡ length text = if_true (starts_with nat_eq cs text) (length text) 0 starts in absurd (omega arith)))
     (longest_passed texts cs m (omega arith) w)
 
 -- one character more
@@ -200,9 +200,9 @@ chars_exact cs n bytes w before stop k v e =
     ⊎_elim
     (λ (l : n < k). let h : width (take n cs) < width (take k cs) = width_rises_strictly n k cs l v in absurd (let z : length cs ≤ n = stop (omega arith) in omega arith))
     (λ (l : k ≤ n). ⊎_elim
-      (λ (u : k < n). let h : width (take k cs) < bytes = before k u in absurd (omega arith))
-      (λ (u : n ≤ k). let r : n ≡ k = omega arith in r)
-      (cases_lt k n))
+    (λ (u : k < n). let h : width (take k cs) < bytes = before k u in absurd (omega arith))
+    (λ (u : n ≤ k). let r : n ≡ k = omega arith in r)
+    (cases_lt k n))
     (cases_lt n k)
 
 -- the bytes of the longest symbol are those of so many characters

@@ -59,8 +59,8 @@ lexemes_step at (suc n) (c ∷ cs) l w e =
     ap (λ (m : ℕ). lexeme at (take m (c ∷ cs)) (piece_at (c ∷ cs)).0 ++ lexemes_from (at + len_utf8 c) (m - 1) cs) (sym e)
     ∙ ap (λ (m : ℕ). lexeme at (take (suc n) (c ∷ cs)) (piece_at (c ∷ cs)).0 ++ lexemes_from (at + len_utf8 c) m cs) (let a : suc n - 1 ≡ n = omega arith in a)
     ∙ ap (λ ts. lexeme at (take (suc n) (c ∷ cs)) (piece_at (c ∷ cs)).0 ++ ts)
-      (lexemes_skip (at + len_utf8 c) n cs (omega arith)
-      ∙ ap (λ (m : ℕ). lexemes_from m 0 (drop n cs)) (let a : at + len_utf8 c + width (take n cs) ≡ at + width (c ∷ take n cs) = omega arith in a))
+    (lexemes_skip (at + len_utf8 c) n cs (omega arith)
+    ∙ ap (λ (m : ℕ). lexemes_from m 0 (drop n cs)) (let a : at + len_utf8 c + width (take n cs) ≡ at + width (c ∷ take n cs) = omega arith in a))
 
 -- Lines and columns
 

@@ -1,4 +1,5 @@
 pub mod Layouts
+pub mod Operators
 pub mod Places
 pub mod Rules
 pub mod Scan

@@ -59,7 +59,7 @@ abbrev pub put_by : ℕ → ℕ → Role → Bool → Bool → Put → Put
 put_by at column role opens first put =
     closing_by at role
     (if opens then where_by at role (open_block at column put)
-     else (if first then new_line at column (where_by at role put) else where_by at role put))
+    else (if first then new_line at column (where_by at role put) else where_by at role put))
 
 -- a token of the text; a bracket may open behind it
 abbrev pub push_by : Token → Role → Put → Put

@@ -4,14 +4,18 @@
 mod characters;
 mod kind;
 mod layout;
+mod lexer;
+mod operator;
 mod place;
 mod role;
 mod scan;
 mod shape;
 mod stack;
-mod lexer;
+#[cfg(test)]
+mod tests;
 mod words;
 
-pub use lf_text::{Token, TokenKind};
 pub use lexer::tokens;
+pub use lf_text::{Token, TokenKind};
+pub use operator::{Operator, Side, operator_of};
 pub use words::{is_command_word, is_left_out_word, is_reserved_word};

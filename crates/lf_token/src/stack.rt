@@ -64,7 +64,11 @@ fn is_deeper(frame: Frame, column: usize) -> bool
 fn blocks(frames: &[Frame]) -> usize
     ensures { result ≡ count_by is_block (reverse frames.now) }
 {
-    frames.iter().rev().filter(|frame| is_block(**frame)).count()
+    frames
+        .iter()
+        .rev()
+        .filter(|frame| is_block(**frame))
+        .count()
 }
 
 /// How many blocks stand at the end.
@@ -72,7 +76,11 @@ fn blocks_above(frames: &[Frame]) -> usize
     ensures value { result ≡ prefix_len is_block (reverse frames.now) }
     ensures within { result ≤ length frames.now }
 {
-    frames.iter().rev().take_while(|frame| is_block(**frame)).count()
+    frames
+        .iter()
+        .rev()
+        .take_while(|frame| is_block(**frame))
+        .count()
 }
 
 /// How many blocks of a greater column stand at the end.
@@ -80,7 +88,11 @@ fn deeper_blocks(frames: &[Frame], column: usize) -> usize
     ensures value { result ≡ prefix_len (is_deeper column) (reverse frames.now) }
     ensures within { result ≤ length frames.now }
 {
-    frames.iter().rev().take_while(|frame| is_deeper(**frame, column)).count()
+    frames
+        .iter()
+        .rev()
+        .take_while(|frame| is_deeper(**frame, column))
+        .count()
 }
 
 /// Whether a block of this column stands last.

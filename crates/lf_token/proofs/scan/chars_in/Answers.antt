@@ -9,9 +9,9 @@ pub characters-preserved : goal.characters-preserved
 characters-preserved c =
     let in_range : c.characters.n < length c.args.cs.now = omega arith in
     let step : width (take (c.characters.n + 1) c.args.cs.now) ≡ width (take c.characters.n c.args.cs.now) + len_utf8 (get_or c.args.cs.now c.characters.n 0) =
-      width_step c.args.cs.now c.characters.n in_range in
+    width_step c.args.cs.now c.characters.n in_range in
     let item : c.index-cs-n.result ≡ get_or c.args.cs.now c.characters.n 0 =
-      c.index-cs-n.is ∙ get_or_default_zero c.args.cs.now c.characters.n c.index-cs-n.result in_range in
+    c.index-cs-n.is ∙ get_or_default_zero c.args.cs.now c.characters.n c.index-cs-n.result in_range in
     let len : c.len_utf8-passed.result ≡ len_utf8 (get_or c.args.cs.now c.characters.n 0) = c.len_utf8-passed.ensures.value ∙ ap len_utf8 item in
     record {
       within = omega arith;

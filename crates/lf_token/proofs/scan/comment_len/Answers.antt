@@ -14,7 +14,7 @@ characters-preserved-then-closes_comment c = record {
   within = omega arith;
   depth = omega arith;
   same = still_closes c.args.cs.now c.characters.n c.characters.depth c.characters-test.true (sym c.opens_comment.ensures ∙ c.if-opens_comment.false)
-    (sym c.closes_comment.ensures ∙ c.if-closes_comment.true) (omega arith) c.characters.invariant.same;
+      (sym c.closes_comment.ensures ∙ c.if-closes_comment.true) (omega arith) c.characters.invariant.same;
 }
 
 pub characters-preserved : goal.characters-preserved
@@ -22,7 +22,7 @@ characters-preserved c = record {
   within = omega arith;
   depth = omega arith;
   same = still_other c.args.cs.now c.characters.n c.characters.depth c.characters-test.true (sym c.opens_comment.ensures ∙ c.if-opens_comment.false)
-    (sym c.closes_comment.ensures ∙ c.if-closes_comment.false) c.characters.invariant.same;
+      (sym c.closes_comment.ensures ∙ c.if-closes_comment.false) c.characters.invariant.same;
 }
 
 pub returns-clause-value : goal.returns-clause-value

@@ -33,13 +33,14 @@ returns-then-bytes-eq0-clause-token c =
 
 exact : (cs : List ℕ) (n bytes : ℕ) → 0 < bytes → bytes ≡ width (take (longest_in symbol_texts cs) cs) →
     ((k : ℕ) → k ≤ length cs → bytes ≡ width (take k cs) → n ≡ k) → (n ≡ longest_in symbol_texts cs) × (0 < longest_in symbol_texts cs)
-exact cs n bytes l e f =
-    (f (longest_in symbol_texts cs) (longest_within symbol_texts cs) e,
-    ⊎_elim
-    (λ (u : 0 < longest_in symbol_texts cs). u)
-    (λ (u : longest_in symbol_texts cs ≤ 0). let z : longest_in symbol_texts cs ≡ 0 = omega arith in
+exact cs n bytes l e f = (
+  f (longest_in symbol_texts cs) (longest_within symbol_texts cs) e,
+  ⊎_elim
+      (λ (u : 0 < longest_in symbol_texts cs). u)
+      (λ (u : longest_in symbol_texts cs ≤ 0). let z : longest_in symbol_texts cs ≡ 0 = omega arith in
       let w : width (take (longest_in symbol_texts cs) cs) ≡ 0 = ap (λ (k : ℕ). width (take k cs)) z in absurd (omega arith))
-    (cases_lt 0 (longest_in symbol_texts cs)))
+      (cases_lt 0 (longest_in symbol_texts cs)),
+)
 
 pub returns-else-bytes-eq0 : goal.returns-else-bytes-eq0
 returns-else-bytes-eq0 c =
@@ -49,7 +50,7 @@ returns-else-bytes-eq0 c =
     let within : longest_in symbol_texts cs ≤ length cs = longest_within symbol_texts cs in
     record {
       token = symbol_at cs (longest_in symbol_texts cs) c.requires.some c.requires.no_part c.requires.no_digit p.1 within
-        (longest_taken symbol_texts cs p.1) (λ m l w. longest_passed symbol_texts cs m l w) ∙ ap (λ (n : ℕ). (Some kind.Symbol, n)) (sym p.0);
+          (longest_taken symbol_texts cs p.1) (λ m l w. longest_passed symbol_texts cs m l w) ∙ ap (λ (n : ℕ). (Some kind.Symbol, n)) (sym p.0);
       kind = λ k. cc;
       within = omega (arith, p.0);
       some = omega (arith, p.0, p.1);

@@ -19,8 +19,8 @@ invariant_of-self-2 c =
     let within : c.args.n ≤ length c.self.inside.frames.items = omega (arith, above_within (reverse c.self.inside.frames.items), length-reverse c.self.inside.frames.items) in
     c.self.invariant ∙ count_drop c.args.n (reverse c.self.inside.frames.items) few
     ∙ ap (count_by is_bracket)
-      (sym (ap reverse (c.truncate.ensures.items ∙ ap (λ (k : ℕ). take (k - c.args.n) c.self.inside.frames.items) (c.len.ensures ∙ all))
-      ∙ reverse_truncate c.self.inside.frames.items c.args.n within))
+    (sym (ap reverse (c.truncate.ensures.items ∙ ap (λ (k : ℕ). take (k - c.args.n) c.self.inside.frames.items) (c.len.ensures ∙ all))
+    ∙ reverse_truncate c.self.inside.frames.items c.args.n within))
 
 pub returns : goal.returns
 returns c =

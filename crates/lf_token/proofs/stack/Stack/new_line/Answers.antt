@@ -9,5 +9,5 @@ pub close-requires : goal.close-requires
 close-requires c =
     subst (λ (p : Put). c.deeper_blocks-n.result ≤ prefix_len is_block p.frames) c.self.view_is
     (let n : c.deeper_blocks-n.result ≡ prefix_len (is_deeper c.args.column) (reverse c.self.inside.frames.items) =
-      c.deeper_blocks-n.ensures.value ∙ ap (λ (xs : List Frame). prefix_len (is_deeper c.args.column) (reverse xs)) c.deref.ensures.value in
+    c.deeper_blocks-n.ensures.value ∙ ap (λ (xs : List Frame). prefix_len (is_deeper c.args.column) (reverse xs)) c.deref.ensures.value in
     omega (arith, deeper_above c.args.column (reverse c.self.inside.frames.items)))
