@@ -118,12 +118,12 @@ put_before bytes previous frames t =
     else put_inside bytes previous frames t
 
 -- what is open behind a token
-abbrev pub open_after : List ℕ → Token → List Frame → List Frame
-open_after bytes t frames = if is_among opening_brackets (spelled bytes t) then Bracket ∷ frames else frames
+abbrev pub frames_after : List ℕ → Token → List Frame → List Frame
+frames_after bytes t frames = if is_among opening_brackets (spelled bytes t) then Bracket ∷ frames else frames
 
 -- the tokens with the layout tokens of the rules; `previous` comes before them
 abbrev pub laid_out : List ℕ → Token → List Frame → List Token → List Token
 laid_out bytes previous frames [] = replicate (blocks frames) (mark Close (previous.at + previous.len))
 laid_out bytes previous frames (t ∷ tokens) =
     let put = put_before bytes previous frames t in
-    put.tokens ++ (t ∷ laid_out bytes t (open_after bytes t put.frames) tokens)
+    put.tokens ++ (t ∷ laid_out bytes t (frames_after bytes t put.frames) tokens)

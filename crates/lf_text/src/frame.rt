@@ -2,7 +2,7 @@
 #[derive(Clone, Copy, Debug, PartialEq, Eq)]
 pub enum Frame {
     /// A block, and its column.
-    Block(u32),
+    Block(usize),
     /// A bracket.
     Bracket,
 }

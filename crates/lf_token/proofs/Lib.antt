@@ -1,0 +1,16 @@
+pub mod Comments
+pub mod Digits
+pub mod Frames
+pub mod LinePlaces
+pub mod Logic
+pub mod Names
+pub mod Numerals
+pub mod Prefixes
+pub mod Roles
+pub mod Rooms
+pub mod Spellings
+pub mod Pieces
+pub mod Steps
+pub mod Symbols
+pub mod Turns
+pub mod Walks

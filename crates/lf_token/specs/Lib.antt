@@ -1,0 +1,6 @@
+pub mod Layouts
+pub mod Operators
+pub mod Places
+pub mod Rules
+pub mod Scan
+pub mod Spelling
