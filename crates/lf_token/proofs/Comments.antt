@@ -5,10 +5,10 @@ use Rattle.lf_text.specs.Lexemes.{Mark, mark_of, through}
 use Rattle.lf_text.specs.Lexemes.Mark.{opens, closes, other}
 use Rattle.lf_token.proofs.Logic.{if_true, if_false}
 
-abbrev opened : ℕ → ℕ → Bool
+abbrev pub opened : ℕ → ℕ → Bool
 opened a b = a == 47 && b == 45
 
-abbrev closed : ℕ → ℕ → Bool
+abbrev pub closed : ℕ → ℕ → Bool
 closed a b = a == 45 && b == 47
 
 opens_mark : (a b : ℕ) → opened a b ≡ true → mark_of a b ≡ opens
@@ -48,23 +48,23 @@ through_suc : (d a b : ℕ) (cs : List ℕ) →
     through (suc d) (a ∷ b ∷ cs) ≡ led (mark_of a b) (option_map (λ n. n + 2) (through (suc (suc d)) cs)) (option_map (λ n. n + 2) (through d cs)) (option_map (λ n. n + 1) (through (suc d) (b ∷ cs)))
 through_suc d a b cs = led_suc (mark_of a b) d b cs
 
-through_opens : (d a b : ℕ) (cs : List ℕ) → opened a b ≡ true → through d (a ∷ b ∷ cs) ≡ option_map (λ n. n + 2) (through (suc d) cs)
+pub through_opens : (d a b : ℕ) (cs : List ℕ) → opened a b ≡ true → through d (a ∷ b ∷ cs) ≡ option_map (λ n. n + 2) (through (suc d) cs)
 through_opens zero a b cs e =
     through_zero a b cs ∙ ap (λ m. led m (option_map (λ n. n + 2) (through 1 cs)) (Some 2) (option_map (λ n. n + 1) (through 0 (b ∷ cs)))) (opens_mark a b e)
 through_opens (suc d) a b cs e =
     through_suc d a b cs
     ∙ ap (λ m. led m (option_map (λ n. n + 2) (through (suc (suc d)) cs)) (option_map (λ n. n + 2) (through d cs)) (option_map (λ n. n + 1) (through (suc d) (b ∷ cs)))) (opens_mark a b e)
 
-through_last : (a b : ℕ) (cs : List ℕ) → opened a b ≡ false → closed a b ≡ true → through 0 (a ∷ b ∷ cs) ≡ Some 2
+pub through_last : (a b : ℕ) (cs : List ℕ) → opened a b ≡ false → closed a b ≡ true → through 0 (a ∷ b ∷ cs) ≡ Some 2
 through_last a b cs e f =
     through_zero a b cs ∙ ap (λ m. led m (option_map (λ n. n + 2) (through 1 cs)) (Some 2) (option_map (λ n. n + 1) (through 0 (b ∷ cs)))) (closes_mark a b e f)
 
-through_closes : (d a b : ℕ) (cs : List ℕ) → opened a b ≡ false → closed a b ≡ true → through (suc d) (a ∷ b ∷ cs) ≡ option_map (λ n. n + 2) (through d cs)
+pub through_closes : (d a b : ℕ) (cs : List ℕ) → opened a b ≡ false → closed a b ≡ true → through (suc d) (a ∷ b ∷ cs) ≡ option_map (λ n. n + 2) (through d cs)
 through_closes d a b cs e f =
     through_suc d a b cs
     ∙ ap (λ m. led m (option_map (λ n. n + 2) (through (suc (suc d)) cs)) (option_map (λ n. n + 2) (through d cs)) (option_map (λ n. n + 1) (through (suc d) (b ∷ cs)))) (closes_mark a b e f)
 
-through_other : (d a b : ℕ) (cs : List ℕ) → opened a b ≡ false → closed a b ≡ false → through d (a ∷ b ∷ cs) ≡ option_map (λ n. n + 1) (through d (b ∷ cs))
+pub through_other : (d a b : ℕ) (cs : List ℕ) → opened a b ≡ false → closed a b ≡ false → through d (a ∷ b ∷ cs) ≡ option_map (λ n. n + 1) (through d (b ∷ cs))
 through_other zero a b cs e f =
     through_zero a b cs ∙ ap (λ m. led m (option_map (λ n. n + 2) (through 1 cs)) (Some 2) (option_map (λ n. n + 1) (through 0 (b ∷ cs)))) (other_mark a b e f)
 through_other (suc d) a b cs e f =

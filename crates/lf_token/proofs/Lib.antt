@@ -1,4 +1,5 @@
 pub mod Comments
+pub mod Covers
 pub mod Digits
 pub mod Frames
 pub mod LinePlaces

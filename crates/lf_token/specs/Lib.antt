@@ -1,3 +1,4 @@
+pub mod Cover
 pub mod Layouts
 pub mod Operators
 pub mod Places

@@ -3,6 +3,7 @@
 
 mod characters;
 mod kind;
+mod law;
 mod layout;
 mod lexer;
 mod operator;
@@ -15,6 +16,7 @@ mod stack;
 mod tests;
 mod words;
 
+pub use law::tokens_cover_the_text;
 pub use lexer::tokens;
 pub use lf_text::{Token, TokenKind};
 pub use operator::{Operator, Side, operator_of};
