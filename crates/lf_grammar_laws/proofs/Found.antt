@@ -12,24 +12,24 @@ InRow Q (on_name f) = (x : Ident) → Q (f x)
 InRow Q (on_one_part f) = (x : Ident) → Q (f x)
 InRow Q (on_spelling s f) = (x : Ident) → Q (f x)
 InRow Q (on_number f) = (n : Num) → Q (f n)
-InRow Q (on_operator test f) = (o : Op) → Q (f o)
+InRow Q (on_operator test f) = (o : Op) → test o ≡ true → Q (f o)
 
 abbrev pub InRows : {V : Type 0} → (Prod V → Type 0) → List (Row V) → Type 0
 InRows Q [] = Unit {0}
 InRows Q (r ∷ rs) = InRow Q r × InRows Q rs
 
-if_in : {V : Type 0} (Q : Prod V → Type 0) (b : Bool) (p q : Prod V) → Q p → if_true b p ≡ Some q → Q q
-if_in Q true p q h e = let f : p ≡ q = cc in subst Q f h
+if_in : {V : Type 0} (Q : Prod V → Type 0) (b : Bool) (p q : Prod V) → (b ≡ true → Q p) → if_true b p ≡ Some q → Q q
+if_in Q true p q h e = let f : p ≡ q = cc in subst Q f (h refl)
 if_in Q false p q h e = cc
 
 some_in : {V : Type 0} (Q : Prod V → Type 0) (p q : Prod V) → Q p → ◌≡◌ {A = Option (Prod V)} (Some p) (Some q) → Q q
 some_in Q p q h e = let f : p ≡ q = cc in subst Q f h
 
 try_in : {V : Type 0} (Q : Prod V → Type 0) (r : Row V) (c : Class) (at : ℕ) (p : Prod V) → InRow Q r → try r c at ≡ Some p → Q p
-try_in Q (on_word w f) (word v) at p h e = if_in Q _ (f at) p (h at) e
+try_in Q (on_word w f) (word v) at p h e = if_in Q _ (f at) p (λ _. h at) e
 try_in Q (on_name f) (name s x) at p h e = some_in Q (f (record { at = at; name = x })) p (h (record { at = at; name = x })) e
-try_in Q (on_one_part f) (name s x) at p h e = if_in Q _ (f (record { at = at; name = x })) p (h (record { at = at; name = x })) e
-try_in Q (on_spelling r f) (name s x) at p h e = if_in Q _ (f (record { at = at; name = x })) p (h (record { at = at; name = x })) e
+try_in Q (on_one_part f) (name s x) at p h e = if_in Q _ (f (record { at = at; name = x })) p (λ _. h (record { at = at; name = x })) e
+try_in Q (on_spelling r f) (name s x) at p h e = if_in Q _ (f (record { at = at; name = x })) p (λ _. h (record { at = at; name = x })) e
 try_in Q (on_number f) (number n) at p h e = some_in Q (f (record { at = at; value = n })) p (h (record { at = at; value = n })) e
 try_in Q (on_operator test f) (operator o) at p h e = if_in Q (test o) (f o) p (h o) e
 try_in Q _ _ at p h e = cc

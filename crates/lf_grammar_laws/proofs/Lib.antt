@@ -7,3 +7,4 @@ pub mod Closing
 pub mod Grammar
 pub mod Document
 pub mod Texts
+pub mod Leveled

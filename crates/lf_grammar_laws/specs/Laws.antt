@@ -13,6 +13,7 @@ use Rattle.lf_syntax.specs.Piece.{Piece, Class, word, begins_command}
 use Rattle.lf_syntax.specs.Symbol.{command}
 use Rattle.lf_syntax.specs.declared.command.Command.{Command}
 use Rattle.lf_syntax.specs.Grammar.{grammar, Derives, Begins, BadAt, Answer, IsAnswer, is_command, is_bad, is_short}
+use Rattle.lf_grammar_laws.specs.Leveled.{CommandLeveled}
 use Rattle.lf_grammar_laws.specs.Machine.{Outcome, Done, Stuck, Short, run}
 
 -- Where the machine ends that begins with the symbol of commands alone.
@@ -91,3 +92,7 @@ WordsAgree =
     let class : List ℕ → Class = λ text. class_of text Symbol in
     (map (λ text. begins_command (class text)) texts ≡ map cuts texts) ×
     (map (λ text. is_left_out (class text)) texts ≡ map (λ text. is_among left_out_words text) texts)
+
+-- In derived commands operators keep their levels and sides.
+abbrev pub LevelsKept : Type 0
+LevelsKept = (ts : List Piece) (c : Command) → Derives ts c → CommandLeveled c

@@ -1,3 +1,4 @@
 pub mod Machine
 pub mod Laws
 pub mod Worked
+pub mod Leveled

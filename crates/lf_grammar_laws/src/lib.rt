@@ -1,7 +1,7 @@
 //! Laws of the grammar of commands: each public function's contract is one of them, and it does nothing.
 #![tactic(auto)]
 
-ghost use Rattle.lf_grammar_laws.specs.Laws.{OneAnswer, MachineAnswers, Complete, Sound, Completable, StuckIsLocal, OneCommand, OneDocument, MachineDocument, NeverBad, WordsAgree};
+ghost use Rattle.lf_grammar_laws.specs.Laws.{OneAnswer, MachineAnswers, Complete, Sound, Completable, StuckIsLocal, OneCommand, OneDocument, MachineDocument, NeverBad, WordsAgree, LevelsKept};
 ghost use Rattle.lf_grammar_laws.specs.Worked.{Worked};
 
 /// A list of tokens is a command with one tree, or bad at one place, or a beginning that ends early: exactly one of these.
@@ -32,6 +32,11 @@ pub fn completable()
 /// The machine stops at the first token that doesn't belong.
 pub fn stuck_is_local()
     ensures { StuckIsLocal }
+{}
+
+/// In derived commands operators keep their levels and sides, and heads and arguments are operands.
+pub fn levels_kept()
+    ensures { LevelsKept }
 {}
 
 /// Tokens begin a command for the grammar where they do for the layout.

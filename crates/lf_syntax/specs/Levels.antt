@@ -1,4 +1,4 @@
--- Operators by levels; Lean 4 reference manual, "Operators": a greater level binds closer.
+-- Operators by levels, which are those of Lean 4: a greater level binds closer.
 use Rattle.std.specs.Prelude.{ℕ, Bool, true, false, ◌&&◌, nat_le}
 use Rattle.lf_syntax.specs.declared.leaf.Op.{Op}
 use Rattle.lf_syntax.specs.declared.leaf.Op.TheVariants.{Iff, Arrow, Or, And, Eq, Ne, Add, Sub, Mul, Div, Mod}

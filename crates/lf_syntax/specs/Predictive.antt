@@ -1,5 +1,4 @@
--- Grammars in which one token decides how to go on, and their derivations.
--- Aho, Lam, Sethi, Ullman, "Compilers", 4.4 and 5.1: predictive grammars; trees by synthesized attributes.
+-- Grammars in which one token decides how to go on (predictive grammars), their derivations, and trees by synthesized attributes.
 use Rattle.std.specs.Prelude.{◌≡◌, List, [], ◌∷◌, ◌++◌, Option, None, Some}
 
 -- What takes one tree for each of these symbols and gives an R.

@@ -112,6 +112,7 @@ fn copy_name(alloc: Global, name: &Option<Ident>) -> Result<Option<Ident>, NoMem
 }
 
 impl Decl {
+    /// An equal declaration; `NoMemory` is its one fault.
     pub fn copy(&self, alloc: Global) -> Result<Decl, NoMemory>
         ensures { IfOk result (λ d. d ≡ self.now) }
     {
@@ -126,6 +127,7 @@ impl Decl {
 }
 
 impl Helper {
+    /// An equal helper; `NoMemory` is its one fault.
     pub fn copy(&self, alloc: Global) -> Result<Helper, NoMemory>
         ensures { IfOk result (λ h. h ≡ self.now) }
     {
@@ -140,6 +142,7 @@ impl Helper {
 }
 
 impl CtorDecl {
+    /// An equal constructor; `NoMemory` is its one fault.
     pub fn copy(&self, alloc: Global) -> Result<CtorDecl, NoMemory>
         ensures { IfOk result (λ c. c ≡ self.now) }
     {
@@ -173,6 +176,7 @@ fn copy_ctors(alloc: Global, ctors: &[CtorDecl]) -> Result<Items<CtorDecl>, NoMe
 }
 
 impl Command {
+    /// An equal command; `NoMemory` is its one fault.
     pub fn copy(&self, alloc: Global) -> Result<Command, NoMemory>
         ensures { IfOk result (λ c. c ≡ self.now) }
     {

@@ -56,6 +56,7 @@ pub enum SyntaxFault {
 }
 
 impl Ident {
+    /// An equal identifier; `NoMemory` is its one fault.
     pub fn copy(&self, alloc: Global) -> Result<Ident, NoMemory>
         ensures { IfOk result (λ x. x ≡ self.now) }
     {

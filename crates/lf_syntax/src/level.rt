@@ -60,7 +60,7 @@ impl Model for LevelTerm {
 }
 
 impl LevelTerm {
-    /// The level of this form.
+    /// The level of this form; `NoMemory` is its one fault.
     pub fn of(alloc: Global, node: LevelNode) -> Result<LevelTerm, NoMemory>
         ensures { IfOk result (λ l. l ≡ level_tree node) }
     {

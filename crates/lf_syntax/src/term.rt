@@ -230,7 +230,7 @@ impl Model for Item {
 }
 
 impl Term {
-    /// The term of this form.
+    /// The term of this form; `NoMemory` is its one fault.
     pub fn of(alloc: Global, node: TermNode) -> Result<Term, NoMemory>
         ensures { IfOk result (λ t. t ≡ term_tree node) }
     {
@@ -257,7 +257,7 @@ impl Term {
 }
 
 impl Item {
-    /// The item of this form.
+    /// The item of this form; `NoMemory` is its one fault.
     pub fn of(alloc: Global, node: ItemNode) -> Result<Item, NoMemory>
         ensures { IfOk result (λ i. i ≡ item_tree node) }
     {
@@ -284,6 +284,7 @@ impl Item {
 }
 
 impl Binders {
+    /// Equal binders; `NoMemory` is its one fault.
     pub fn copy(&self, alloc: Global) -> Result<Binders, NoMemory>
         ensures { IfOk result (λ b. b ≡ self.now) }
     {
