@@ -1,6 +1,6 @@
 -- Definitional equality, typing and formed terms, with no algorithm: no weak head form, no budget, no order of trial.
 -- After Carneiro 2019, "The Type Theory of Lean", chapter 2, and the Lean 4 reference manual, "The Type System". Conditions on scope
--- and formed terms are this project's: without them every two terms are equal (crate lf_judgment_laws).
+-- and formed terms are this project's: crate lf_judgment_laws shows what comes of leaving each out.
 use Rattle.std.specs.Prelude.{◌≡◌, ℕ, ◌+◌, Some, None, Option, List, length, slice_get, Contains, Bool}
 use Rattle.lf_core.specs.Term.{Path, Universe, level_zero, level_succ, level_imax, Term, bound, free, sort, const, app, lam, pi, letin, lit}
 use Rattle.lf_core.specs.Level.{Same, AllSame}
