@@ -1,6 +1,6 @@
-use Rattle.std.proofs.Common.{◌≡◌, ℕ, ◌+◌, ◌-◌, ◌≤◌, ◌<◌, List, [], ◌∷◌, ◌++◌, length, take, drop, get_or, Bool, true, false, cond, not, ◌&&◌, ◌==◌, refl, sym, ap, ◌∙◌, subst, arith, zero, suc, max, append_assoc, append-nil, Option, Some, None}
-use Rattle.std.specs.Prelude.{nat_eq, codes, option_map, is_some, unwrap_or, replicate}
-use Rattle.std.specs.List.{list_all, prefix_len, starts_with}
+use Rattle.std.proofs.Common.{◌≡◌, ℕ, ◌+◌, ◌-◌, ◌≤◌, ◌<◌, List, [], ◌∷◌, ◌++◌, length, take, drop, get_or, Bool, true, false, cond, not, refl, sym, ap, ◌∙◌, subst, arith, zero, suc, append_assoc, append-nil, Option, Some, None}
+use Rattle.std.specs.Prelude.{nat_eq, codes, option_map, is_some, replicate}
+use Rattle.std.specs.List.{prefix_len, starts_with}
 use Rattle.std.specs.Str.{encode_utf8_all, chars}
 use Rattle.std.proofs.lemmas.Slice.Eq.{bytes_eq-Decides}
 use Rattle.std.proofs.lemmas.List.{take-append-drop, take-take, drop-take, length-take-le, length-append, length-drop}
@@ -8,19 +8,19 @@ use Rattle.std.proofs.lemmas.Str.{encodes-append}
 use Rattle.lf_text.specs.declared.frame.Frame.{Frame}
 use Rattle.lf_text.specs.declared.token.Token.{Token}
 use Rattle.lf_text.specs.declared.token.TokenKind.{TokenKind}
-use Rattle.lf_text.specs.declared.token.TokenKind.TheVariants.{Open, Sep, Close, OpenComment}
+use Rattle.lf_text.specs.declared.token.TokenKind.TheVariants.{Open, Sep, Close}
 use Rattle.lf_text.specs.Place.{is_line_feed, column_of}
-use Rattle.lf_text.specs.Words.{utf8, is_among, begins_command, closing_brackets}
-use Rattle.lf_text.specs.Lexemes.{Mark, mark_of, through, is_white, piece_at, comment_at, token_at, kind_of, longest_up_to, longest_token, lexeme, lexemes_from, lexemes_of}
-use Rattle.lf_text.specs.Layout.{Put, mark, nothing, close, open_block, part_items, new_line, at_where, at_closing, blocks, blocks_above, deeper_blocks, has_bracket, is_block_at, spelled, is_first, opens_block, put_inside, put_before, frames_after, laid_out}
+use Rattle.lf_text.specs.Words.{begins_command}
+use Rattle.lf_text.specs.Lexemes.{through, is_white, piece_at, comment_at, kind_of, longest_up_to, longest_token, lexeme, lexemes_from, lexemes_of}
+use Rattle.lf_text.specs.Layout.{Put, mark, nothing, close, open_block, part_items, new_line, at_where, at_closing, blocks, blocks_above, deeper_blocks, is_block_at, spelled, is_first, opens_block, put_inside, put_before, frames_after, laid_out}
 use Rattle.lf_text.specs.Tokens.{tokens_of}
 use Rattle.lf_token.specs.Spelling.{width}
 use Rattle.lf_token.specs.Cover.{IsSpace, IsBlank, Covers}
 use Rattle.lf_token.specs.Cover.IsSpace.{white, line, comment}
 use Rattle.lf_token.specs.Cover.IsBlank.{none, more}
-use Rattle.lf_token.proofs.Logic.{all_prefix, prefix_within, and_left}
+use Rattle.lf_token.proofs.Logic.{all_prefix, prefix_within}
 use Rattle.lf_token.proofs.Comments.{through_opens, through_last, through_closes, through_other, opened, closed}
-use Rattle.lf_token.proofs.Pieces.{piece_white, piece_line, piece_comment, piece_token, line_some, comment_two, comment_some, comment_none}
+use Rattle.lf_token.proofs.Pieces.{piece_white, piece_line, piece_comment, piece_token, comment_two, comment_some, comment_none}
 use Rattle.lf_token.proofs.Walks.{lexemes_step}
 
 -- A comment ends where it ends, whatever stands behind it.
@@ -47,43 +47,43 @@ local d (a ∷ b ∷ xs) n e =
     by_mark : (o c : Bool) → opened a b ≡ o → closed a b ≡ c → (d : ℕ) → through d (a ∷ b ∷ xs) ≡ Some n →
         ((i m : ℕ) → through i xs ≡ Some m → Local i xs m) → ((m : ℕ) → through d (b ∷ xs) ≡ Some m → Local d (b ∷ xs) m) → Local d (a ∷ b ∷ xs) n
     by_mark true c o k d e inner next =
-      let (m, s, p) = some_sum (through (suc d) xs) 2 n (sym (through_opens d a b xs o) ∙ e) in
-      let h : Local (suc d) xs m = inner (suc d) m s in
-      record {
-        two = omega arith;
-        within = omega (arith, h.within);
-        same = let q : n ≡ suc (suc m) = omega arith in
-          ap (λ (i : ℕ). through d (take i (a ∷ b ∷ xs))) q ∙ through_opens d a b (take m xs) o ∙ ap (option_map (λ k. k + 2)) h.same ∙ ap Some (sym p);
-      }
+        let (m, s, p) = some_sum (through (suc d) xs) 2 n (sym (through_opens d a b xs o) ∙ e) in
+        let h : Local (suc d) xs m = inner (suc d) m s in
+        record {
+          two = omega arith;
+          within = omega (arith, h.within);
+          same = let q : n ≡ suc (suc m) = omega arith in
+              ap (λ (i : ℕ). through d (take i (a ∷ b ∷ xs))) q ∙ through_opens d a b (take m xs) o ∙ ap (option_map (λ k. k + 2)) h.same ∙ ap Some (sym p);
+        }
     by_mark false true o k zero e inner next =
-      let q : 2 ≡ n = unsome 2 n (sym (through_last a b xs o k) ∙ e) in
-      record {
-        two = omega arith;
-        within = omega arith;
-        same = ap (λ (i : ℕ). through 0 (take i (a ∷ b ∷ xs))) (sym q) ∙ through_last a b [] o k ∙ ap Some q;
-      }
+        let q : 2 ≡ n = unsome 2 n (sym (through_last a b xs o k) ∙ e) in
+        record {
+          two = omega arith;
+          within = omega arith;
+          same = ap (λ (i : ℕ). through 0 (take i (a ∷ b ∷ xs))) (sym q) ∙ through_last a b [] o k ∙ ap Some q;
+        }
       where
         unsome : (x y : ℕ) → Some x ≡ Some y → x ≡ y
         unsome x y f = cc
     by_mark false true o k (suc d) e inner next =
-      let (m, s, p) = some_sum (through d xs) 2 n (sym (through_closes d a b xs o k) ∙ e) in
-      let h : Local d xs m = inner d m s in
-      record {
-        two = omega arith;
-        within = omega (arith, h.within);
-        same = let q : n ≡ suc (suc m) = omega arith in
-          ap (λ (i : ℕ). through (suc d) (take i (a ∷ b ∷ xs))) q ∙ through_closes d a b (take m xs) o k ∙ ap (option_map (λ k. k + 2)) h.same ∙ ap Some (sym p);
-      }
+        let (m, s, p) = some_sum (through d xs) 2 n (sym (through_closes d a b xs o k) ∙ e) in
+        let h : Local d xs m = inner d m s in
+        record {
+          two = omega arith;
+          within = omega (arith, h.within);
+          same = let q : n ≡ suc (suc m) = omega arith in
+              ap (λ (i : ℕ). through (suc d) (take i (a ∷ b ∷ xs))) q ∙ through_closes d a b (take m xs) o k ∙ ap (option_map (λ k. k + 2)) h.same ∙ ap Some (sym p);
+        }
     by_mark false false o k d e inner next =
-      let (m, s, p) = some_sum (through d (b ∷ xs)) 1 n (sym (through_other d a b xs o k) ∙ e) in
-      let h : Local d (b ∷ xs) m = next m s in
-      record {
-        two = omega (arith, h.two);
-        within = omega (arith, h.within);
-        same = let two : 2 ≤ m = h.two in let q : n ≡ suc (suc (m - 1)) = omega arith in let r : suc (m - 1) ≡ m = omega arith in
-          ap (λ (i : ℕ). through d (take i (a ∷ b ∷ xs))) q ∙ through_other d a b (take (m - 1) xs) o k
-          ∙ ap (λ (i : ℕ). option_map (λ k. k + 1) (through d (take i (b ∷ xs)))) r ∙ ap (option_map (λ k. k + 1)) h.same ∙ ap Some (sym p);
-      }
+        let (m, s, p) = some_sum (through d (b ∷ xs)) 1 n (sym (through_other d a b xs o k) ∙ e) in
+        let h : Local d (b ∷ xs) m = next m s in
+        record {
+          two = omega (arith, h.two);
+          within = omega (arith, h.within);
+          same = let two : 2 ≤ m = h.two in let q : n ≡ suc (suc (m - 1)) = omega arith in let r : suc (m - 1) ≡ m = omega arith in
+              ap (λ (i : ℕ). through d (take i (a ∷ b ∷ xs))) q ∙ through_other d a b (take (m - 1) xs) o k
+              ∙ ap (λ (i : ℕ). option_map (λ k. k + 1) (through d (take i (b ∷ xs)))) r ∙ ap (option_map (λ k. k + 1)) h.same ∙ ap Some (sym p);
+        }
 
 -- What stands at a place
 
@@ -121,44 +121,44 @@ comment_fits cs e = by_end (through 0 (drop 2 cs)) refl
   where
     by_end : (o : Option ℕ) → through 0 (drop 2 cs) ≡ o → Fits cs (comment_at cs)
     by_end None f =
-      let two : 2 ≤ length cs = comment_two cs e in
-      subst (Fits cs) (sym (comment_none cs f)) (record { some = omega arith; within = omega arith; space = λ g. cc })
+        let two : 2 ≤ length cs = comment_two cs e in
+        subst (Fits cs) (sym (comment_none cs f)) (record { some = omega arith; within = omega arith; space = λ g. cc })
     by_end (Some n) f =
-      let two : 2 ≤ length cs = comment_two cs e in
-      let h : Local 0 (drop 2 cs) n = local 0 (drop 2 cs) n f in
-      let len : length (drop 2 cs) ≡ length cs - 2 = length-drop 2 cs in
-      let within : n + 2 ≤ length cs = omega (arith, h.within) in
-      let inner : drop 2 (take (n + 2) cs) ≡ take n (drop 2 cs) =
+        let two : 2 ≤ length cs = comment_two cs e in
+        let h : Local 0 (drop 2 cs) n = local 0 (drop 2 cs) n f in
+        let len : length (drop 2 cs) ≡ length cs - 2 = length-drop 2 cs in
+        let within : n + 2 ≤ length cs = omega (arith, h.within) in
+        let inner : drop 2 (take (n + 2) cs) ≡ take n (drop 2 cs) =
         ap (λ (k : ℕ). drop 2 (take k cs)) (let a : n + 2 ≡ 2 + n = omega arith in a) ∙ drop-take 2 n cs in
-      let size : n ≡ length (take (n + 2) cs) - 2 = (let t : length (take (n + 2) cs) ≡ n + 2 = length-take-le (n + 2) cs within in omega arith) in
-      subst (Fits cs) (sym (comment_some cs n f)) (record {
-        some = omega arith;
-        within = within;
-        space = λ g. comment (take (n + 2) cs) (starts_taken (codes "/-") cs (n + 2) (omega arith) e) (ap (through 0) inner ∙ h.same ∙ ap Some size);
-      })
+        let size : n ≡ length (take (n + 2) cs) - 2 = (let t : length (take (n + 2) cs) ≡ n + 2 = length-take-le (n + 2) cs within in omega arith) in
+        subst (Fits cs) (sym (comment_some cs n f)) (record {
+          some = omega arith;
+          within = within;
+          space = λ g. comment (take (n + 2) cs) (starts_taken (codes "/-") cs (n + 2) (omega arith) e) (ap (through 0) inner ∙ h.same ∙ ap Some size);
+        })
 
 piece_fits : (cs : List ℕ) → 0 < length cs → Fits cs (piece_at cs)
 piece_fits cs l = by_tests (is_white (get_or cs 0 0)) (starts_with nat_eq cs (codes "--")) (starts_with nat_eq cs (codes "/-")) refl refl refl
   where
     by_tests : (w d c : Bool) → is_white (get_or cs 0 0) ≡ w → starts_with nat_eq cs (codes "--") ≡ d → starts_with nat_eq cs (codes "/-") ≡ c → Fits cs (piece_at cs)
     by_tests true d c e f g =
-      subst (Fits cs) (sym (piece_white cs l e)) (record { some = omega arith; within = omega arith; space = λ _. one cs l e })
+        subst (Fits cs) (sym (piece_white cs l e)) (record { some = omega arith; within = omega arith; space = λ _. one cs l e })
       where
         one : (xs : List ℕ) → 0 < length xs → is_white (get_or xs 0 0) ≡ true → IsSpace (take 1 xs)
         one [] m h = absurd (omega arith)
         one (x ∷ xs) m h = white x h
     by_tests false true c e f g =
-      let two : 2 ≤ prefix_len (λ x. not (is_line_feed x)) cs = line_two cs f in
-      subst (Fits cs) (sym (piece_line cs l e f)) (record {
-        some = omega arith;
-        within = prefix_within (λ x. not (is_line_feed x)) cs;
-        space = λ _. line (take (prefix_len (λ x. not (is_line_feed x)) cs) cs)
-          (starts_taken (codes "--") cs (prefix_len (λ x. not (is_line_feed x)) cs) (omega arith) f) (all_prefix (λ x. not (is_line_feed x)) cs);
-      })
+        let two : 2 ≤ prefix_len (λ x. not (is_line_feed x)) cs = line_two cs f in
+        subst (Fits cs) (sym (piece_line cs l e f)) (record {
+          some = omega arith;
+          within = prefix_within (λ x. not (is_line_feed x)) cs;
+          space = λ _. line (take (prefix_len (λ x. not (is_line_feed x)) cs) cs)
+              (starts_taken (codes "--") cs (prefix_len (λ x. not (is_line_feed x)) cs) (omega arith) f) (all_prefix (λ x. not (is_line_feed x)) cs);
+        })
     by_tests false false true e f g = subst (Fits cs) (sym (piece_comment cs l e f g)) (comment_fits cs g)
     by_tests false false false e f g =
-      let w : longest_token cs ≤ length cs = up_to_within (λ front. is_some (kind_of front)) cs (length cs) in
-      subst (Fits cs) (sym (piece_token cs l e f g)) (record { some = omega arith; within = omega arith; space = λ h. cc })
+        let w : longest_token cs ≤ length cs = up_to_within (λ front. is_some (kind_of front)) cs (length cs) in
+        subst (Fits cs) (sym (piece_token cs l e f g)) (record { some = omega arith; within = omega arith; space = λ h. cc })
 
 -- White space
 
@@ -185,19 +185,26 @@ covers_lexemes (suc size) at place gap (c ∷ cs) l b p =
     let less : length (drop (piece_at (c ∷ cs)).1 (c ∷ cs)) ≤ size = omega (arith, length-drop (piece_at (c ∷ cs)).1 (c ∷ cs), h.some, h.within) in
     subst (Covers at (gap ++ (c ∷ cs))) (sym (lexemes_step place n (c ∷ cs) h.some h.within refl))
     (by_kind at place gap (c ∷ cs) n b p (piece_at (c ∷ cs)).0 h.space
-      (λ a q g. covers_lexemes size a q g (drop (piece_at (c ∷ cs)).1 (c ∷ cs)) less))
+    (λ a q g. covers_lexemes size a q g (drop (piece_at (c ∷ cs)).1 (c ∷ cs)) less))
   where
     by_kind : (at place : ℕ) (gap all : List ℕ) (n : ℕ) → IsBlank gap → place ≡ at + width gap → (kind : Option TokenKind) → (kind ≡ None → IsSpace (take n all)) →
         ((a q : ℕ) (g : List ℕ) → IsBlank g → q ≡ a + width g → Covers a (g ++ drop n all) (lexemes_from q 0 (drop n all))) →
         Covers at (gap ++ all) (lexeme place (take n all) kind ++ lexemes_from (place + width (take n all)) 0 (drop n all))
     by_kind at place gap all n b p None space ih =
-      subst (λ (xs : List ℕ). Covers at xs (lexemes_from (place + width (take n all)) 0 (drop n all)))
-      (append_assoc gap (take n all) (drop n all) ∙ ap (λ xs. gap ++ xs) (take-append-drop n all))
-      (ih at (place + width (take n all)) (gap ++ take n all) (blank_append gap (take n all) b (blank_piece (take n all) (space refl)))
+        subst (λ (xs : List ℕ). Covers at xs (lexemes_from (place + width (take n all)) 0 (drop n all)))
+        (append_assoc gap (take n all) (drop n all) ∙ ap (λ xs. gap ++ xs) (take-append-drop n all))
+        (ih at (place + width (take n all)) (gap ++ take n all) (blank_append gap (take n all) b (blank_piece (take n all) (space refl)))
         (omega (arith, width_append gap (take n all))))
-    by_kind at place gap all n b p (Some k) space ih =
-      (gap, take n all, drop n all, ap (λ xs. gap ++ xs) (sym (take-append-drop n all)), b, p, refl,
-        ih (place + width (take n all)) (place + width (take n all)) [] none (omega arith))
+    by_kind at place gap all n b p (Some k) space ih = (
+      gap,
+      take n all,
+      drop n all,
+      ap (λ xs. gap ++ xs) (sym (take-append-drop n all)),
+      b,
+      p,
+      refl,
+      ih (place + width (take n all)) (place + width (take n all)) [] none (omega arith),
+    )
 
 -- The layout tokens have no text.
 
@@ -251,26 +258,40 @@ marked_inside bytes previous frames t =
     let plain : Put = at_where t.at (spelled bytes t) (nothing frames) in
     marked_closing t.at text (cond (opens_block (spelled bytes previous) (spelled bytes t)) opened_first (cond (is_first bytes previous t) lined plain))
     (marked_cond t.at (opens_block (spelled bytes previous) (spelled bytes t)) opened_first (cond (is_first bytes previous t) lined plain)
-      (marked_where t.at text (open_block t.at column (nothing frames)) (marked_open t.at column (nothing frames) tt))
-      (marked_cond t.at (is_first bytes previous t) lined plain
-        (marked_line t.at column plain (marked_where t.at text (nothing frames) tt))
-        (marked_where t.at text (nothing frames) tt)))
+    (marked_where t.at text (open_block t.at column (nothing frames)) (marked_open t.at column (nothing frames) tt))
+    (marked_cond t.at (is_first bytes previous t) lined plain
+    (marked_line t.at column plain (marked_where t.at text (nothing frames) tt))
+    (marked_where t.at text (nothing frames) tt)))
 
 -- so they cover nothing, where they stand at the end of the last token
 marks_here : (marks : List Token) (p at : ℕ) (cs : List ℕ) (tokens : List Token) → AllMarks p marks → p ≡ at → Covers at cs tokens → Covers at cs (marks ++ tokens)
 marks_here [] p at cs tokens a e c = c
 marks_here (m ∷ marks) p at cs tokens a e c =
-    let same : at ≡ m.at + m.len = omega (arith, a.0, a.1) in
-    ([], [], cs, refl, none, omega (arith, a.0), a.1,
-      marks_here marks p (m.at + m.len) cs tokens a.2 (omega (arith, a.0, a.1)) (subst (λ (k : ℕ). Covers k cs tokens) same c))
+    let same : at ≡ m.at + m.len = omega (arith, a.0, a.1) in (
+      [],
+      [],
+      cs,
+      refl,
+      none,
+      omega (arith, a.0),
+      a.1,
+      marks_here marks p (m.at + m.len) cs tokens a.2 (omega (arith, a.0, a.1)) (subst (λ (k : ℕ). Covers k cs tokens) same c),
+    )
 
 -- or at the next token
 marks_before : (marks : List Token) (at : ℕ) (cs : List ℕ) (t : Token) (tokens : List Token) → AllMarks t.at marks → Covers at cs (t ∷ tokens) → Covers at cs (marks ++ (t ∷ tokens))
 marks_before [] at cs t tokens a c = c
-marks_before (m ∷ marks) at cs t tokens a (gap, text, rest, e, b, p, l, c) =
-    (gap, [], text ++ rest, e, b, a.0 ∙ p, a.1,
-      marks_here marks t.at (m.at + m.len) (text ++ rest) (t ∷ tokens) a.2 (omega (arith, a.0, a.1))
-        ([], text, rest, refl, none, omega (arith, a.0, a.1), l, c))
+marks_before (m ∷ marks) at cs t tokens a (gap, text, rest, e, b, p, l, c) = (
+  gap,
+  [],
+  text ++ rest,
+  e,
+  b,
+  a.0 ∙ p,
+  a.1,
+  marks_here marks t.at (m.at + m.len) (text ++ rest) (t ∷ tokens) a.2 (omega (arith, a.0, a.1))
+      ([], text, rest, refl, none, omega (arith, a.0, a.1), l, c),
+)
 
 covers_put : (b : Bool) (bytes : List ℕ) (previous : Token) (frames : List Frame) (at : ℕ) (cs : List ℕ) (t : Token) (tokens : List Token) → previous.at + previous.len ≡ at →
     Covers at cs (t ∷ tokens) →
@@ -285,7 +306,7 @@ covers_laid : (bytes : List ℕ) (previous : Token) (frames : List Frame) (at : 
 covers_laid bytes previous frames at cs [] e c =
     subst (Covers at cs) (append-nil (replicate (blocks frames) (mark Close (previous.at + previous.len))))
     (marks_here (replicate (blocks frames) (mark Close (previous.at + previous.len))) (previous.at + previous.len) at cs []
-      (marks_replicate (previous.at + previous.len) (blocks frames) Close) e c)
+    (marks_replicate (previous.at + previous.len) (blocks frames) Close) e c)
 covers_laid bytes previous frames at cs (t ∷ tokens) e (gap, text, rest, f, b, p, l, c) =
     covers_put (begins_command (spelled bytes t)) bytes previous frames at cs t _ e
     (gap, text, rest, f, b, p, l, covers_laid bytes t (frames_after bytes t (put_before bytes previous frames t).frames) (t.at + t.len) rest tokens refl c)

@@ -8,5 +8,4 @@ ghost use Rattle.lf_token.specs.Cover.{Covers};
 #[tactic(auto, using(crate::proofs::Covers::tokens_cover))]
 pub fn tokens_cover_the_text()
     ensures { (bytes : List ℕ) → Covers 0 (chars bytes) (tokens_of bytes) }
-{
-}
+{}
