@@ -1,4 +1,4 @@
-use Rattle.std.specs.Prelude.{ℕ, List, [], ◌∷◌, map, max, cond, Bool, true, ◌&&◌, Option, None, Some, length, drop, bytes_eq, nat_eq}
+use Rattle.std.specs.Prelude.{ℕ, List, [], ◌∷◌, map, max, cond, Bool, true, ◌&&◌, Option, None, Some, length, bytes_eq, nat_eq}
 use Rattle.std.specs.Borrow.{Bor}
 use Rattle.std.specs.List.{starts_with}
 use Rattle.std.specs.Ordering.{nat_cmp, is_lt}

@@ -1,11 +1,10 @@
-use Rattle.std.proofs.Common.{◌≡◌, ℕ, List, [], ◌∷◌, ◌++◌, refl, true, false, codes, Some, None}
+use Rattle.std.proofs.Common.{◌≡◌, ℕ, [], ◌∷◌, refl, true, codes}
 use Rattle.lf_text.specs.declared.token.Token.{Token}
 use Rattle.lf_text.specs.declared.token.TokenKind.{TokenKind}
-use Rattle.lf_text.specs.declared.token.TokenKind.TheVariants.{Ident, Word, Symbol, Num, BadChar, OpenComment, BadNum, WideNum, Open, Sep, Close}
+use Rattle.lf_text.specs.declared.token.TokenKind.TheVariants.{Ident, Word, Symbol, Num, Open, Sep, Close}
 use Rattle.lf_text.specs.Words.{utf8, is_among, reserved_words}
-use Rattle.lf_text.specs.Lexemes.{lexemes_of, kind_of, starts_part, continues_part, is_name, longest_token, token_at, piece_at}
+use Rattle.lf_text.specs.Lexemes.{lexemes_of, starts_part, continues_part, is_name}
 use Rattle.lf_text.specs.Tokens.{tokens_of}
-use Rattle.lf_text.specs.Nesting.{nesting_of, outermost}
 use Rattle.std.specs.Str.{chars}
 use Rattle.unicode_ident.proofs.Computing.{unicode_ident}
 use Rattle.std.specs.Char.{encode_utf8}

@@ -1,7 +1,7 @@
-use Rattle.std.proofs.Common.{◌≡◌, ℕ, ◌+◌, ◌-◌, ◌≤◌, ◌<◌, List, [], ◌∷◌, ◌++◌, length, take, drop, get_or, Bool, true, false, cond, not, ◌==◌, refl, sym, ap, ◌∙◌, subst, arith, zero, suc, count_by, eqb, leb, true≢false, add-one, ◌⊎◌, ◌≢◌, inl, inr, ⊎_elim, IsTrue}
-use Rattle.std.specs.List.{AllWithin, suffix_len, after_last}
+use Rattle.std.proofs.Common.{◌≡◌, ℕ, ◌+◌, ◌-◌, ◌≤◌, ◌<◌, List, [], ◌∷◌, ◌++◌, length, take, drop, get_or, Bool, true, false, cond, not, ◌==◌, refl, sym, ap, ◌∙◌, subst, arith, zero, suc, count_by, leb, true≢false, add-one, ◌≢◌, ⊎_elim}
+use Rattle.std.specs.List.{suffix_len, after_last}
 use Rattle.std.specs.List.Sorted.{IsNonDecreasingBy, IsPartitionPoint, IsPartitionedBy}
-use Rattle.std.proofs.lemmas.List.Sums.{suffix_len_is, count_by-le-length}
+use Rattle.std.proofs.lemmas.List.Sums.{suffix_len_is}
 use Rattle.std.proofs.lemmas.List.Sorted.{IsPartitionedBy-leb}
 use Rattle.std.proofs.lemmas.List.Recursion.{is_count_by}
 use Rattle.std.proofs.lemmas.Bool.{cases_lt, eqb-true, leb-true, leb-false}

@@ -1,6 +1,6 @@
-use Rattle.std.proofs.Common.{◌≡◌, ℕ, ◌+◌, ◌-◌, ◌≤◌, ◌<◌, List, [], ◌∷◌, ◌++◌, length, take, drop, get_or, Bool, true, false, cond, not, ◌&&◌, ◌==◌, refl, sym, ap, ◌∙◌, subst, arith, zero, suc, max, append_assoc, append-nil, Option, Some, None}
-use Rattle.std.specs.Prelude.{nat_eq, codes, option_map, is_some, unwrap_or, replicate}
-use Rattle.std.specs.List.{list_all, prefix_len, starts_with}
+use Rattle.std.proofs.Common.{◌≡◌, ℕ, ◌+◌, ◌-◌, ◌≤◌, ◌<◌, List, [], ◌∷◌, ◌++◌, length, take, drop, get_or, Bool, true, false, cond, not, refl, sym, ap, ◌∙◌, subst, arith, zero, suc, append_assoc, append-nil, Option, Some, None}
+use Rattle.std.specs.Prelude.{nat_eq, codes, option_map, is_some, replicate}
+use Rattle.std.specs.List.{prefix_len, starts_with}
 use Rattle.std.specs.Str.{encode_utf8_all, chars}
 use Rattle.std.proofs.lemmas.Slice.Eq.{bytes_eq-Decides}
 use Rattle.std.proofs.lemmas.List.{take-append-drop, take-take, drop-take, length-take-le, length-append, length-drop}
@@ -8,19 +8,19 @@ use Rattle.std.proofs.lemmas.Str.{encodes-append}
 use Rattle.lf_text.specs.declared.frame.Frame.{Frame}
 use Rattle.lf_text.specs.declared.token.Token.{Token}
 use Rattle.lf_text.specs.declared.token.TokenKind.{TokenKind}
-use Rattle.lf_text.specs.declared.token.TokenKind.TheVariants.{Open, Sep, Close, OpenComment}
+use Rattle.lf_text.specs.declared.token.TokenKind.TheVariants.{Open, Sep, Close}
 use Rattle.lf_text.specs.Place.{is_line_feed, column_of}
-use Rattle.lf_text.specs.Words.{utf8, is_among, begins_command, closing_brackets}
-use Rattle.lf_text.specs.Lexemes.{Mark, mark_of, through, is_white, piece_at, comment_at, token_at, kind_of, longest_up_to, longest_token, lexeme, lexemes_from, lexemes_of}
-use Rattle.lf_text.specs.Layout.{Put, mark, nothing, close, open_block, part_items, new_line, at_where, at_closing, blocks, blocks_above, deeper_blocks, has_bracket, is_block_at, spelled, is_first, opens_block, put_inside, put_before, frames_after, laid_out}
+use Rattle.lf_text.specs.Words.{begins_command}
+use Rattle.lf_text.specs.Lexemes.{through, is_white, piece_at, comment_at, kind_of, longest_up_to, longest_token, lexeme, lexemes_from, lexemes_of}
+use Rattle.lf_text.specs.Layout.{Put, mark, nothing, close, open_block, part_items, new_line, at_where, at_closing, blocks, blocks_above, deeper_blocks, is_block_at, spelled, is_first, opens_block, put_inside, put_before, frames_after, laid_out}
 use Rattle.lf_text.specs.Tokens.{tokens_of}
 use Rattle.lf_token.specs.Spelling.{width}
 use Rattle.lf_token.specs.Cover.{IsSpace, IsBlank, Covers}
 use Rattle.lf_token.specs.Cover.IsSpace.{white, line, comment}
 use Rattle.lf_token.specs.Cover.IsBlank.{none, more}
-use Rattle.lf_token.proofs.Logic.{all_prefix, prefix_within, and_left}
+use Rattle.lf_token.proofs.Logic.{all_prefix, prefix_within}
 use Rattle.lf_token.proofs.Comments.{through_opens, through_last, through_closes, through_other, opened, closed}
-use Rattle.lf_token.proofs.Pieces.{piece_white, piece_line, piece_comment, piece_token, line_some, comment_two, comment_some, comment_none}
+use Rattle.lf_token.proofs.Pieces.{piece_white, piece_line, piece_comment, piece_token, comment_two, comment_some, comment_none}
 use Rattle.lf_token.proofs.Walks.{lexemes_step}
 
 -- A comment ends where it ends, whatever stands behind it.

@@ -1,4 +1,4 @@
-use Rattle.std.proofs.Common.{◌≡◌, ℕ, ◌+◌, ◌≤◌, ◌<◌, List, [], ◌∷◌, length, take, drop, get_or, Bool, true, false, cond, ◌||◌, ◌&&◌, ◌==◌, refl, sym, ap, ◌∙◌, arith, true≢false, subst, zero, suc, ◌⊎◌, inl, inr, ⊎_elim, not}
+use Rattle.std.proofs.Common.{◌≡◌, ℕ, ◌+◌, ◌≤◌, ◌<◌, List, [], ◌∷◌, length, take, Bool, true, false, cond, ◌||◌, ◌&&◌, ◌==◌, refl, sym, ap, ◌∙◌, arith, subst, zero, suc, ⊎_elim, not}
 use Rattle.std.specs.Prelude.{nat_le}
 use Rattle.std.specs.List.{list_all, slice_split, onto_first}
 use Rattle.std.proofs.lemmas.Bool.{eqb-true}
@@ -7,7 +7,7 @@ use Rattle.unicode_ident.proofs.Computing.{unicode_ident}
 use Rattle.unicode_ident.specs.Ident.{is_xid_start, is_xid_continue}
 use Rattle.lf_text.specs.Lexemes.{is_apart, starts_part, continues_part, is_part, is_name}
 use Rattle.lf_token.specs.Scan.{part_next, goes_over, tail_len}
-use Rattle.lf_token.proofs.Logic.{and_left, and_right, and_both, and_false, and_more, or_left, or_right, or_more, or_cases, false_from, if_true, if_false, take_cons}
+use Rattle.lf_token.proofs.Logic.{and_left, and_right, and_both, and_false, and_more, or_left, or_more, or_cases, false_from, take_cons}
 
 -- what may follow the first character of an identifier
 abbrev pub is_tail : List ℕ → Bool

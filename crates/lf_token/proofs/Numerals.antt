@@ -1,4 +1,4 @@
-use Rattle.std.proofs.Common.{◌≡◌, ℕ, ◌+◌, ◌-◌, ◌≤◌, ◌<◌, List, [], ◌∷◌, length, take, drop, Bool, true, false, cond, ◌||◌, ◌&&◌, ◌==◌, not, refl, sym, ap, ◌∙◌, arith, subst, zero, suc, ◌⊎◌, inl, inr, ⊎_elim, add-one}
+use Rattle.std.proofs.Common.{◌≡◌, ℕ, ◌+◌, ◌-◌, ◌≤◌, ◌<◌, List, [], ◌∷◌, length, take, drop, Bool, true, false, cond, ◌||◌, ◌&&◌, ◌==◌, not, refl, sym, ap, ◌∙◌, arith, subst, zero, suc}
 use Rattle.std.specs.Prelude.{nat_le, nat_lt}
 use Rattle.std.specs.List.{list_all, prefix_len}
 use Rattle.std.proofs.lemmas.Bool.{leb-true, eqb-true, lt-ltb}
@@ -6,8 +6,8 @@ use Rattle.std.proofs.lemmas.List.{length-take-le, length-drop, drop-take}
 use Rattle.unicode_ident.proofs.IdentLemmas.{is_xid_start-ascii}
 use Rattle.unicode_ident.specs.Ident.{is_xid_start}
 use Rattle.lf_text.specs.Lexemes.{is_digit, is_apart, starts_part, continues_part, is_part, is_numeral, is_bad_numeral}
-use Rattle.lf_token.specs.Scan.{part_next, part_len}
-use Rattle.lf_token.proofs.Logic.{and_left, and_right, and_both, and_false, and_false_right, or_false, false_from, if_true, if_false, take_cons, all_prefix, all_bound, prefix_within}
+use Rattle.lf_token.specs.Scan.{part_len}
+use Rattle.lf_token.proofs.Logic.{and_left, and_right, and_both, and_false, and_false_right, or_false, false_from, take_cons, all_prefix, all_bound, prefix_within}
 
 below_false : (a b : ℕ) → b < a → nat_le a b ≡ false
 below_false a b l = false_from (nat_le a b) (λ e. absurd (let h : a ≤ b = leb-true a b e in omega arith))

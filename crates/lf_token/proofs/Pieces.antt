@@ -1,6 +1,6 @@
-use Rattle.std.proofs.Common.{◌≡◌, ℕ, ◌+◌, ◌-◌, ◌^◌, ◌≤◌, ◌<◌, List, [], ◌∷◌, length, get_or, take, drop, Bool, true, false, cond, ◌||◌, ◌&&◌, ◌==◌, not, refl, sym, ap, ◌∙◌, arith, subst, zero, suc, Option, Some, None, max}
+use Rattle.std.proofs.Common.{◌≡◌, ℕ, ◌+◌, ◌-◌, ◌^◌, ◌≤◌, ◌<◌, List, [], ◌∷◌, length, get_or, take, drop, Bool, true, false, cond, not, refl, sym, ap, ◌∙◌, arith, subst, zero, suc, Option, Some, None}
 use Rattle.std.specs.Prelude.{nat_lt, nat_eq, codes, unwrap_or, option_map}
-use Rattle.std.specs.List.{list_all, prefix_len, starts_with}
+use Rattle.std.specs.List.{prefix_len, starts_with}
 use Rattle.std.proofs.lemmas.Slice.Eq.{bytes_eq-Decides}
 use Rattle.lf_text.specs.Place.{is_line_feed}
 use Rattle.std.specs.Char.{encode_utf8}
@@ -11,7 +11,7 @@ use Rattle.lf_text.specs.declared.token.TokenKind.{TokenKind}
 use Rattle.lf_text.specs.declared.token.TokenKind.TheVariants as kind
 use Rattle.lf_text.specs.Words.{is_among, reserved_words, symbols}
 use Rattle.lf_text.specs.Lexemes.{is_digit, starts_part, is_name, is_numeral, is_bad_numeral, is_white, through, comment_at, piece_at, kind_of, token_at}
-use Rattle.lf_token.specs.declared.shape.Shape.TheVariants.{Name, Numeral, BadNum, Symbol, BadChar}
+use Rattle.lf_token.specs.declared.shape.Shape.TheVariants.{Name, Numeral}
 use Rattle.lf_token.specs.Scan.{tail_len, part_len, kind_by}
 use Rattle.lf_token.proofs.Logic.{and_left, and_right, false_from, if_true, if_false, token_is, bad_is, prefix_within}
 use Rattle.lf_token.proofs.Names.{name_front, name_longer, no_name, tail_within}

@@ -1,14 +1,14 @@
-use Rattle.std.proofs.Common.{◌≡◌, ℕ, ◌+◌, List, [], ◌∷◌, ◌++◌, Bool, true, false, cond, ◌||◌, ◌&&◌, not, refl, sym, ap, ◌∙◌, subst, append_assoc, append-nil, drop}
-use Rattle.std.specs.Prelude.{replicate, bytes_eq, nat_lt}
+use Rattle.std.proofs.Common.{◌≡◌, ℕ, ◌+◌, List, [], ◌∷◌, ◌++◌, Bool, true, false, cond, ◌||◌, ◌&&◌, not, refl, sym, ap, ◌∙◌, append_assoc, append-nil, drop}
+use Rattle.std.specs.Prelude.{replicate, bytes_eq}
 use Rattle.lf_text.specs.declared.frame.Frame.{Frame}
 use Rattle.lf_text.specs.declared.frame.Frame.TheVariants.{Block, Bracket}
 use Rattle.lf_text.specs.declared.token.Token.{Token}
 use Rattle.lf_text.specs.declared.token.TokenKind.TheVariants.{Open, Sep, Close}
-use Rattle.lf_text.specs.Words.{utf8, is_among, begins_command, block_openers, opening_brackets, closing_brackets}
-use Rattle.lf_text.specs.Place.{line_of, column_of}
+use Rattle.lf_text.specs.Words.{utf8, is_among, closing_brackets}
+use Rattle.lf_text.specs.Place.{column_of}
 use Rattle.lf_text.specs.Layout.{Put, mark, nothing, close, open_block, part_items, new_line, blocks, blocks_above, deeper_blocks, has_bracket, is_block_at, spelled, is_first, opens_block, put_inside, put_before, frames_after}
 use Rattle.lf_token.specs.declared.role.Role.{Role}
-use Rattle.lf_token.specs.Rules.{Tells, is_command, is_opener, is_where, is_bar, is_opening, is_closing, opens_by, where_by, leave_bracket, closing_by, put_by, led_by, push_by}
+use Rattle.lf_token.specs.Rules.{Tells, is_command, is_opener, is_where, is_opening, is_closing, opens_by, where_by, leave_bracket, closing_by, put_by, led_by, push_by}
 
 -- the tokens so far, and then those of a step
 abbrev pub prepend : List Token → Put → Put

@@ -1,13 +1,13 @@
-use Rattle.std.proofs.Common.{◌≡◌, ℕ, List, [], ◌∷◌, ◌++◌, Bool, true, false, cond, ◌||◌, ◌&&◌, not, refl, sym, ap, ◌∙◌, subst, Option, Some, None, ◌⊎◌, inl, inr, ⊎_elim}
+use Rattle.std.proofs.Common.{◌≡◌, ℕ, List, [], ◌∷◌, ◌++◌, Bool, true, false, cond, ◌||◌, ◌&&◌, not, refl, sym, ap, ◌∙◌, subst, Some, ⊎_elim}
 use Rattle.std.specs.Prelude.{bytes_eq, unwrap_or}
-use Rattle.std.specs.List.{list_all, list_any}
+use Rattle.std.specs.List.{list_all}
 use Rattle.std.proofs.lemmas.Slice.Eq.{bytes_eq-Decides}
 use Rattle.lf_tables.specs.Rows.{Row, value_of}
 use Rattle.lf_text.specs.Words.{utf8, is_among, command_words, left_out_words, block_openers, opening_brackets, closing_brackets}
 use Rattle.lf_token.specs.Rules.{Tells, is_command, is_opener, is_where, is_bar, is_opening, is_closing}
 use Rattle.lf_token.specs.declared.role.Role.{Role}
 use Rattle.lf_token.specs.declared.role.Role.TheVariants.{Other}
-use Rattle.lf_token.proofs.Logic.{and_left, and_right, or_cases, or_left, or_right, false_from}
+use Rattle.lf_token.proofs.Logic.{and_left, and_right, or_cases, or_left, false_from}
 use Rattle.lf_token.proofs.Symbols.{keys}
 
 -- no key is written twice

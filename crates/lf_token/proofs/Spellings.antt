@@ -1,13 +1,11 @@
-use Rattle.std.proofs.Common.{◌≡◌, ℕ, ◌+◌, ◌≤◌, ◌<◌, List, [], ◌∷◌, ◌++◌, length, take, drop, Bool, true, false, cond, ◌||◌, ◌&&◌, ◌==◌, not, refl, sym, ap, ◌∙◌, arith, subst, zero, suc, codes, map, IsTrue, ◌⊎◌, inl, inr, ⊎_elim}
+use Rattle.std.proofs.Common.{◌≡◌, ℕ, List, [], ◌∷◌, Bool, true, false, ◌&&◌, not, refl, subst, codes, map, ⊎_elim}
 use Rattle.std.specs.Prelude.{bytes_eq}
-use Rattle.std.specs.List.{list_all, list_any}
+use Rattle.std.specs.List.{list_all}
 use Rattle.std.specs.Str.{encode_utf8_all}
-use Rattle.std.specs.Char.{encode_utf8}
 use Rattle.std.proofs.lemmas.Slice.Eq.{bytes_eq-Decides}
 use Rattle.std.proofs.lemmas.Str.{encodes_same}
 use Rattle.unicode_ident.proofs.Computing.{unicode_ident}
-use Prim.Native.String.{String}
-use Rattle.lf_text.specs.Words.{utf8, is_among, symbols}
+use Rattle.lf_text.specs.Words.{is_among, symbols}
 use Rattle.lf_text.specs.Lexemes.{is_digit, starts_part}
 use Rattle.lf_token.proofs.Logic.{or_cases, and_left, and_right}
 

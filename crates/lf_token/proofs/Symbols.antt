@@ -1,4 +1,4 @@
-use Rattle.std.proofs.Common.{◌≡◌, ℕ, ◌+◌, ◌-◌, ◌≤◌, ◌<◌, List, [], ◌∷◌, ◌++◌, length, take, drop, map, get_or, Bool, true, false, cond, ◌||◌, ◌&&◌, ◌==◌, not, refl, sym, ap, ◌∙◌, arith, subst, zero, suc, max, ◌⊎◌, inl, inr, ⊎_elim, append_assoc, Some, None, Option}
+use Rattle.std.proofs.Common.{◌≡◌, ℕ, ◌+◌, ◌≤◌, ◌<◌, List, [], ◌∷◌, ◌++◌, length, take, drop, map, get_or, Bool, true, false, cond, ◌||◌, refl, sym, ap, ◌∙◌, arith, subst, zero, suc, max, ⊎_elim, append_assoc, Some, Option}
 use Rattle.std.specs.Prelude.{bytes_eq, nat_eq, is_some}
 use Rattle.std.specs.List.{starts_with}
 use Rattle.std.specs.Str.{encode_utf8_all}
@@ -11,7 +11,7 @@ use Rattle.std.proofs.lemmas.Bool.{cases_lt}
 use Rattle.lf_tables.specs.Rows.{Row, value_of, longest_of, reach}
 use Rattle.lf_text.specs.Words.{is_among, symbols}
 use Rattle.lf_token.specs.Spelling.{width, longest_among}
-use Rattle.lf_token.proofs.Logic.{or_cases, or_left, or_right, or_false, false_from, if_true, if_false}
+use Rattle.lf_token.proofs.Logic.{or_left, or_right, or_false, false_from, if_true}
 use Rattle.lf_token.proofs.Spellings.{symbol_texts}
 
 -- Tables

@@ -1,19 +1,18 @@
-use Rattle.std.proofs.Common.{◌≡◌, ℕ, ◌+◌, ◌-◌, ◌≤◌, ◌<◌, List, [], ◌∷◌, ◌++◌, length, take, drop, Bool, true, false, cond, ◌&&◌, not, ◌==◌, refl, sym, ap, ◌∙◌, subst, arith, zero, suc, append_assoc, append-nil, count_by, get_or, ◌⊎◌, ⊎_elim}
-use Rattle.std.specs.Str.{encode_utf8_all, all_scalars, chars, IsUtf8, IsCharBoundary}
+use Rattle.std.proofs.Common.{◌≡◌, ℕ, ◌+◌, ◌-◌, ◌≤◌, ◌<◌, List, [], ◌∷◌, ◌++◌, length, take, drop, Bool, true, false, cond, ◌==◌, refl, sym, ap, ◌∙◌, subst, arith, zero, suc, append_assoc, append-nil, count_by, get_or}
+use Rattle.std.specs.Str.{encode_utf8_all, all_scalars, chars}
 use Rattle.std.specs.Char.{encode_utf8, len_utf8}
 use Rattle.std.specs.List.{after_last}
-use Rattle.std.proofs.lemmas.List.{length-append, take-append-drop, length-take-le, take_more}
+use Rattle.std.proofs.lemmas.List.{length-append, take-append-drop, take_more}
 use Rattle.std.proofs.Math.Seq.{take-append_seam, drop-append_seam}
 use Rattle.std.proofs.lemmas.Str.{encodes-append, length-encode, chars-encodes, inside_one, length-le-encodes}
 use Rattle.std.proofs.lemmas.List.Sums.{count_by-le-length}
 use Rattle.std.proofs.lemmas.Bool.{eqb-true}
-use Rattle.lf_text.specs.declared.token.Token.{Token}
 use Rattle.lf_text.specs.Place.{is_line_feed, line_of, column_of}
 use Rattle.lf_text.specs.Lexemes.{piece_at, lexeme, lexemes_from}
 use Rattle.lf_token.specs.declared.place.Place.{Place}
 use Rattle.lf_token.specs.Places.{IsAt}
 use Rattle.lf_token.specs.Spelling.{width}
-use Rattle.lf_token.proofs.Logic.{and_left, and_right, and_both, if_true, if_false, false_from}
+use Rattle.lf_token.proofs.Logic.{and_left, and_right, and_both, if_false, false_from}
 use Rattle.lf_token.proofs.LinePlaces.{feeds, feeds_count, feeds_append, last_goes_on, last_ends}
 
 -- Fronts of a text

@@ -5,7 +5,7 @@ use Rattle.lf_text.specs.Words.{utf8, is_among, begins_command, block_openers, o
 use Rattle.lf_text.specs.Layout.{Put, close, open_block, new_line, blocks, blocks_above, has_bracket, mark}
 use Rattle.lf_text.specs.declared.token.TokenKind.TheVariants.{Close}
 use Rattle.lf_token.specs.declared.role.Role.{Role}
-use Rattle.lf_token.specs.declared.role.Role.TheVariants.{Command, BlockOpener, Where, Bar, Opening, Closing, Other}
+use Rattle.lf_token.specs.declared.role.Role.TheVariants.{Command, BlockOpener, Where, Bar, Opening, Closing}
 
 abbrev pub is_command : Role → Bool
 is_command Command = true

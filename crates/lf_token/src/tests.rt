@@ -36,11 +36,8 @@ fn shown(alloc: Global, source: &str) -> Result<String, Fail> {
             line.push(' ')?;
         }
         line.push_str(letter)?;
-        line.push_str(
-            source
-                .get(token.at..token.at + token.len)
-                .ok_or("no slice")?,
-        )?;
+        let rest = source.get(token.at..).ok_or("no place")?;
+        line.push_str(rest.get(..token.len).ok_or("no slice")?)?;
     }
     Ok(line)
 }

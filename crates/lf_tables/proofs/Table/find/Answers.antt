@@ -1,6 +1,6 @@
-use Rattle.std.proofs.Common.{rules, ◌≡◌, ◌↔◌, ◌∙◌, sym, ap, subst, Option, Some, None, true, Contains}
+use Rattle.std.proofs.Common.{rules, ◌≡◌, ◌↔◌, ◌∙◌, sym, ap, subst, Option, Some, true, Contains}
 use Rattle.std.proofs.lemmas.Fn.{always_returns_same}
-use Rattle.lf_tables.specs.Rows.{value_of, keys_rise, rows_of}
+use Rattle.lf_tables.specs.Rows.{value_of, keys_rise}
 use Rattle.lf_tables.proofs.Halves.{found, missing, searchable, written}
 use Rattle.lf_tables.proofs.Table.find.Goals as goal
 

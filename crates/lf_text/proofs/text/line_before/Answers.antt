@@ -1,7 +1,6 @@
-use Rattle.std.proofs.Common.{◌≡◌, ℕ, ◌-◌, ◌<◌, suc, zero, get_or, arith, rules, subst, sym, leb}
+use Rattle.std.proofs.Common.{ℕ, ◌-◌, ◌<◌, get_or, arith, rules, subst, leb}
 use Rattle.std.proofs.lemmas.Fn.{always_returns_same}
-use Rattle.lf_text.specs.Starts.{line_starts}
-use Rattle.lf_text.proofs.StartsLemmas.{Parts, parts_of, Before, LineAt, before_first_feed, behind_feed, LineAt-boundary}
+use Rattle.lf_text.proofs.StartsLemmas.{Parts, parts_of, Before, before_first_feed, behind_feed, LineAt-boundary}
 use Rattle.lf_text.proofs.text.line_before.Goals as goal
 
 pub returns-then-feeds-eq0 : goal.returns-then-feeds-eq0

@@ -1,8 +1,8 @@
-use Rattle.std.proofs.Common.{◌≡◌, ℕ, ◌+◌, ◌*◌, ◌^◌, ◌<◌, ◌≤◌, List, length, take, drop, get_or, Some, true, false, arith, rules, sym, ap, ◌∙◌, ⊎_elim}
+use Rattle.std.proofs.Common.{◌≡◌, ℕ, ◌+◌, ◌*◌, ◌^◌, ◌<◌, ◌≤◌, drop, get_or, Some, arith, sym, ap, ◌∙◌, ⊎_elim}
 use Rattle.std.specs.Char.{digit_value}
 use Rattle.std.specs.Str.Parse.{digits_value, digits_value_after}
 use Rattle.std.proofs.lemmas.Bool.{cases_lt}
-use Rattle.std.proofs.lemmas.Grind.{get_or_default_zero, common_steps}
+use Rattle.std.proofs.lemmas.Grind.{get_or_default_zero}
 use Rattle.lf_token.proofs.Digits.{value_grows, value_step, fits, passes, drop_past}
 use Rattle.lf_token.proofs.kind.number.Goals as goal
 

@@ -1,4 +1,4 @@
-use Rattle.std.proofs.Common.{true, false, eqb, rules}
+use Rattle.std.proofs.Common.{rules}
 use Rattle.lf_token.proofs.LinePlaces.{at_feed, at_other}
 use Rattle.lf_token.proofs.place.past_one.Goals as goal
 

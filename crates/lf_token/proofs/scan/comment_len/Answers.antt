@@ -1,5 +1,5 @@
-use Rattle.std.proofs.Common.{◌≡◌, ℕ, ◌+◌, ◌<◌, length, get_or, true, false, arith, sym, ◌∙◌}
-use Rattle.lf_token.proofs.Comments.{still_start, still_opens, still_closes, closes_last, still_other, never_closes}
+use Rattle.std.proofs.Common.{arith, sym, ◌∙◌}
+use Rattle.lf_token.proofs.Comments.{still_opens, still_closes, still_other, never_closes}
 use Rattle.lf_token.proofs.scan.comment_len.Goals as goal
 
 pub characters-preserved-then-opens_comment : goal.characters-preserved-then-opens_comment

@@ -1,4 +1,4 @@
-use Rattle.std.proofs.Common.{◌≡◌, ℕ, ◌+◌, ◌-◌, ◌≤◌, length, drop}
+use Rattle.std.proofs.Common.{◌≡◌, ◌+◌, ◌-◌, ◌≤◌, length, drop}
 use Rattle.std.specs.Prelude.{option_map}
 use Rattle.lf_text.specs.Lexemes.{through}
 use Rattle.lf_token.proofs.scan.comment_len.Given as goal

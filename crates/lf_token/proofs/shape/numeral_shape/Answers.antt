@@ -1,4 +1,4 @@
-use Rattle.std.proofs.Common.{◌≡◌, ℕ, ◌+◌, ◌<◌, ◌≤◌, length, take, drop, true, Some, arith, sym, ap, subst, ◌∙◌}
+use Rattle.std.proofs.Common.{◌≡◌, ℕ, ◌+◌, ◌<◌, take, drop, true, Some, arith, sym, ap, subst, ◌∙◌}
 use Rattle.std.specs.List.{prefix_len, list_all}
 use Rattle.lf_text.specs.declared.token.TokenKind.TheVariants as kind
 use Rattle.lf_text.specs.Lexemes.{is_digit, token_at}

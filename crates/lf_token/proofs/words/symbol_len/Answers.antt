@@ -1,4 +1,4 @@
-use Rattle.std.proofs.Common.{◌≡◌, ◌∙◌, ap, drop}
+use Rattle.std.proofs.Common.{◌∙◌, ap, drop}
 use Rattle.std.specs.Char.{encode_utf8}
 use Rattle.lf_token.specs.Spelling.{longest_among}
 use Rattle.lf_token.proofs.Symbols.{keys, longest_of-keys}

@@ -1,5 +1,5 @@
-use Rattle.std.proofs.Common.{◌≡◌, ℕ, ◌∙◌, ap, arith, rules, List, length, Err, Result, ◌≤◌, sym, subst}
-use Rattle.std.specs.Str.{IsUtf8, IsValidUpTo, valid_up_to}
+use Rattle.std.proofs.Common.{◌≡◌, ℕ, ◌∙◌, ap, arith, Err, sym, subst}
+use Rattle.std.specs.Str.{IsValidUpTo, valid_up_to}
 use Rattle.std.proofs.lemmas.Str.{utf8_valid_len-IsValidUpTo}
 use Rattle.lf_text.specs.declared.text.TextFault.TheVariants.{NotUtf8}
 use Rattle.lf_text.proofs.text.Text.read.Goals as goal

@@ -1,5 +1,5 @@
-use Rattle.std.proofs.Common.{◌≡◌, ◌≤◌, ◌<◌, reverse, arith, subst, count_by}
-use Rattle.lf_text.specs.Layout.{Put, is_block, is_bracket}
+use Rattle.std.proofs.Common.{◌<◌, reverse, arith, subst, count_by}
+use Rattle.lf_text.specs.Layout.{Put, is_bracket}
 use Rattle.lf_token.proofs.Frames.{bracket_left, top_left}
 use Rattle.lf_token.proofs.stack.Stack.at_closing.Goals as goal
 
