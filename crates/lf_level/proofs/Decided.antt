@@ -8,7 +8,7 @@ use Rattle.lf_core.specs.Level.{Assignment, value_of, Leq, Same}
 use Rattle.lf_core.specs.Size.{level_depth}
 use Rattle.lf_level.specs.Parameters.{HasNoMetavariable, occurrences, distinct_behind, parameters_of}
 use Rattle.lf_level.specs.Decision.{assigned, assignment, passes}
-use Rattle.lf_level.proofs.Regions.{Over, Alike, monotone, signs, Reached, by_number, by_parameter, reached}
+use Rattle.lf_level.proofs.Regions.{Over, Alike, monotone, Reached, by_number, by_parameter, reached}
 use Rattle.lf_level.proofs.Trials.{sign, near, far_at, Among, near_at, far_here, far_there, Holds, pass_near, pass_far, passes_if, and_parts}
 
 sign_below : (n : ℕ) → sign n ≤ n

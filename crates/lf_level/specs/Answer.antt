@@ -1,5 +1,5 @@
 -- What a comparison of levels answers.
-use Rattle.std.specs.Prelude.{ℕ, Bool, IsTrue, ◌↔◌, ◌<◌, ◌≤◌, length, Result, Ok, Err}
+use Rattle.std.specs.Prelude.{Bool, IsTrue, ◌↔◌, ◌<◌, ◌≤◌, length, Result, Ok, Err}
 use Rattle.lf_core.specs.Term.{Universe}
 use Rattle.lf_level.specs.Parameters.{parameters_of}
 use Rattle.lf_level.specs.declared.fault.LevelFault.{LevelFault}

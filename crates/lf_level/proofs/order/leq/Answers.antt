@@ -1,4 +1,4 @@
-use Rattle.std.proofs.Common.{◌≡◌, ◌∙◌, sym, ap, arith, length}
+use Rattle.std.proofs.Common.{◌∙◌, sym, ap, arith, length}
 use Rattle.lf_level.proofs.Decided.{leq_answer}
 use Rattle.lf_level.proofs.order.leq.Goals as goal
 

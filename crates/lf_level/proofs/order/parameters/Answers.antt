@@ -1,4 +1,3 @@
-use Rattle.std.proofs.Common.{rules, ◌≡◌}
 use Rattle.std.proofs.lemmas.Result.{err_from_is_err_and}
 use Rattle.lf_level.proofs.Collecting.{lists_fails, lists_fails_later, lists_both}
 use Rattle.lf_level.proofs.order.parameters.Goals as goal

@@ -1,4 +1,4 @@
-use Rattle.std.proofs.Common.{rules, ◌≡◌}
+use Rattle.std.proofs.Common.{rules}
 use Rattle.std.proofs.lemmas.Result.{err_from_is_err_and}
 use Rattle.lf_level.proofs.Collecting.{collects_both, collects_fails}
 use Rattle.lf_level.proofs.parameters.+collect.Goals as goal
