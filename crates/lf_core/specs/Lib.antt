@@ -12,4 +12,7 @@ pub mod Scope
 pub mod Environment
 pub mod Step
 pub mod Judgment
+pub mod Telescope
+pub mod Recursor
+pub mod Inductive
 pub mod Derived
