@@ -1,4 +1,4 @@
--- Whether two levels are the same under every assignment, as a test (crate lf_level has the test and its law).
+-- Whether two levels are the same, or one at most the other, under every assignment, as tests (crate lf_level has the tests and their laws).
 use Rattle.std.specs.Prelude.{Bool, true, false, ◌&&◌, ◌||◌, nat_lt, if◌then◌else◌, List, [], ◌∷◌, length}
 use Rattle.lf_core.specs.Term.{Universe, level_succ, level_max, level_imax, level_meta}
 use Rattle.lf_core.specs.Same.{same_universe}
@@ -23,6 +23,10 @@ is_too_great l m = nat_lt 8 (length (parameters_of l m)) || (nat_lt 1024 (level_
 -- With a metavariable, the same tree.
 unfoldable pub is_same : Universe → Universe → Bool
 is_same l m = if has_metavariable l || has_metavariable m then same_universe l m else (if is_too_great l m then false else both_orders l m)
+
+-- With a metavariable, only the same tree is known to be at most it.
+unfoldable pub is_at_most : Universe → Universe → Bool
+is_at_most l m = if has_metavariable l || has_metavariable m then same_universe l m else (if is_too_great l m then false else passes l m (parameters_of l m) [] (parameters_of l m) true)
 
 abbrev pub are_same : List Universe → List Universe → Bool
 are_same [] [] = true

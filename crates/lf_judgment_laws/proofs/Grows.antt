@@ -1,5 +1,5 @@
 -- Derivations over an environment hold over each that tells at least as much.
-use Rattle.std.proofs.Common.{◌≡◌, ◌+◌, List, Contains, length, drop, sym, ap, subst, ◌∙◌}
+use Rattle.std.proofs.Common.{◌≡◌, ◌+◌, List, Contains, length, drop, refl, sym, ap, subst, ◌∙◌}
 use Rattle.lf_core.specs.Term.{Path, Universe, Term, bound, free, meta, sort, const, app, lam, pi, letin, lit}
 use Rattle.lf_core.specs.Substitution.{level_instantiate}
 use Rattle.lf_core.specs.Spine.{apply}
@@ -7,7 +7,22 @@ use Rattle.lf_core.specs.Environment.{Environment, Context, Declared, nat, Names
 use Rattle.lf_core.specs.Step.{Step, beta, zeta, delta, iota, literal_zero, literal_succ, operation, by_rule}
 use Rattle.lf_core.specs.Judgment.{result_level, IsDeclaredProposition, Equal, reflexive, symmetric, transitive, applications, lambdas, pis, lets, sorts, constants, step, eta, proof_irrelevance, declared_irrelevance, HasType, variable, sort_type, constant, application, lambda, pi_type, let_type, literal, conversion, Formed, has_type, is_type, equal_to, function, argument, lambda_domain, lambda_body, pi_domain, pi_codomain}
 use Rattle.lf_core.specs.declared.constant.ConstInfo.{ConstInfo}
-use Rattle.lf_judgment_laws.specs.Growth.{Tells, Grows, Holds}
+use Rattle.lf_core.specs.declared.constant.Detail.{Detail}
+use Rattle.lf_core.specs.declared.constant.Detail.TheVariants.{Plain, Ind, Ctor, Rec}
+use Rattle.lf_judgment_laws.specs.Growth.{SameDetail, Tells, Grows, Holds}
+
+pub same_detail : (d : Detail) → SameDetail d d
+same_detail Plain = refl
+same_detail (Ind params indices constructors large) = (large, refl)
+same_detail (Ctor ind index params fields) = refl
+same_detail (Rec ind params minors indices rules) = refl
+
+pub self_tells : (c : ConstInfo) → Tells c c
+self_tells c = record { name = refl; kind = refl; levels = refl; ty = refl; detail = same_detail c.detail; value = λ v e. e }
+
+-- The detail of the constant that tells at least as much.
+told : {c d : ConstInfo} {e : Detail} → Tells c d → c.detail ≡ e → SameDetail e d.detail
+told {d = d} t q = subst (λ x. SameDetail x d.detail) q t.detail
 
 grow_step : (E F : Environment) → Grows E F → {a b : Term} → Step E a b → Step F a b
 grow_step E F g (beta x A b a) = beta x A b a
@@ -21,7 +36,7 @@ grow_step E F g (iota c d ind params minors indices index own fields rules rule 
     let t : Tells c r.0 = r.2 in
     let r' = g d wd in
     let t' : Tells d r'.0 = r'.2 in
-    let s = iota r.0 r'.0 ind params minors indices index own fields rules rule ls ms before ys r.1 (sym t.detail ∙ qc) (l ∙ ap (λ ns. length ns) t.levels) n r'.1 (sym t'.detail ∙ qd) e m in
+    let s = iota r.0 r'.0 ind params minors indices index own fields rules rule ls ms before ys r.1 (sym (told t qc)) (l ∙ ap (λ ns. length ns) t.levels) n r'.1 (sym (told t' qd)) e m in
     let s' = subst (λ j. Step F (app (apply (const j ls) before) (apply (const r'.0.name ms) ys)) (by_rule rule ls (params + 1 + minors) before (drop own ys))) (sym t.name) s in
     subst (λ j. Step F (app (apply (const c.name ls) before) (apply (const j ms) ys)) (by_rule rule ls (params + 1 + minors) before (drop own ys))) (sym t'.name) s'
 grow_step E F g literal_zero = literal_zero
@@ -32,17 +47,18 @@ grow_proposition : (E F : Environment) → Grows E F → {P : Term} → IsDeclar
 grow_proposition E F g p =
     let r = g p.type p.within in
     let t : Tells p.type r.0 = r.2 in
+    let later = told t p.detail in
     record {
       type = r.0;
       result = p.result;
       params = p.params;
       indices = p.indices;
       constructors = p.constructors;
-      large = p.large;
+      large = later.0;
       levels = p.levels;
       arguments = p.arguments;
       within = r.1;
-      detail = sym t.detail ∙ p.detail;
+      detail = later.1;
       declared = sym (ap result_level t.ty) ∙ p.declared;
       in_prop = p.in_prop;
       whole = p.whole;

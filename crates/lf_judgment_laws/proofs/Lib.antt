@@ -1,6 +1,5 @@
 pub mod Variables
 pub mod Scopes
-pub mod Closes
 pub mod Grows
 pub mod Pure_typing
 pub mod Collapses

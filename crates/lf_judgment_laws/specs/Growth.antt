@@ -1,9 +1,16 @@
 -- What holds over an environment holds over each that tells at least as much.
-use Rattle.std.specs.Prelude.{◌≡◌, Some, Contains}
+use Rattle.std.specs.Prelude.{◌≡◌, Bool, Some, Contains}
 use Rattle.lf_core.specs.Term.{Term}
 use Rattle.lf_core.specs.Environment.{Environment, Context, NamesDeclared}
 use Rattle.lf_core.specs.Judgment.{Equal, HasType, Formed}
 use Rattle.lf_core.specs.declared.constant.ConstInfo.{ConstInfo}
+use Rattle.lf_core.specs.declared.constant.Detail.{Detail}
+use Rattle.lf_core.specs.declared.constant.Detail.TheVariants.{Ind}
+
+-- The same, but that a type may be found later to eliminate into every sort.
+abbrev pub SameDetail : Detail → Detail → Type 0
+SameDetail (Ind params indices constructors large) e = (later : Bool) × (e ≡ Ind params indices constructors later)
+SameDetail d e = d ≡ e
 
 -- The second constant is the first, or the first with its value.
 pub record Tells (c d : ConstInfo) : Type 0 where
@@ -11,7 +18,7 @@ pub record Tells (c d : ConstInfo) : Type 0 where
   pub kind : c.kind ≡ d.kind
   pub levels : c.levels ≡ d.levels
   pub ty : c.ty ≡ d.ty
-  pub detail : c.detail ≡ d.detail
+  pub detail : SameDetail c.detail d.detail
   pub value : (v : Term) → c.value ≡ Some v → d.value ≡ Some v
 
 abbrev pub Grows : Environment → Environment → Type 0

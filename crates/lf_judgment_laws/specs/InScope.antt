@@ -4,7 +4,6 @@ use Rattle.lf_core.specs.Term.{Term}
 use Rattle.lf_core.specs.Scope.{Scoped}
 use Rattle.lf_core.specs.Environment.{Environment, Context}
 use Rattle.lf_core.specs.Judgment.{Equal, HasType}
-use Rattle.lf_core.specs.Derived.{Derived}
 use Rattle.lf_core.specs.declared.constant.ConstInfo.{ConstInfo}
 use Rattle.lf_core.specs.declared.constant.Detail.{Detail}
 use Rattle.lf_core.specs.declared.constant.Detail.TheVariants.{Rec}
@@ -38,6 +37,3 @@ pub record KeepsScope (E : Environment) (C : Context) : Type 0 where
 
 abbrev pub RelationsKeepScope : Type 0
 RelationsKeepScope = (E : Environment) (C : Context) → EnvironmentClosed E → ContextScoped C → KeepsScope E C
-
-abbrev pub DerivedIsClosed : Type 0
-DerivedIsClosed = (E : Environment) → Derived E → EnvironmentClosed E

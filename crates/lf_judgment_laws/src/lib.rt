@@ -2,7 +2,7 @@
 #![tactic(auto)]
 
 ghost use Rattle.lf_judgment_laws.specs.Growth.{RelationsGrow};
-ghost use Rattle.lf_judgment_laws.specs.InScope.{DerivedIsClosed, RelationsKeepScope};
+ghost use Rattle.lf_judgment_laws.specs.InScope.{RelationsKeepScope};
 ghost use Rattle.lf_judgment_laws.specs.Loose.{CapturingCollapses, PartialCollapses, UnfreshCollapses};
 ghost use Rattle.lf_judgment_laws.specs.Names.{OddNumbers, TwiceNamed};
 ghost use Rattle.lf_judgment_laws.specs.Pure.{TypingIsPure};
@@ -11,11 +11,6 @@ ghost use Rattle.lf_judgment_laws.specs.Untyped.{UntypedCollapses};
 /// Typed terms and their types are in scope, and equality keeps scope.
 pub fn relations_keep_scope()
     ensures { RelationsKeepScope }
-{}
-
-/// The constants of a derived environment are closed.
-pub fn derived_environments_are_closed()
-    ensures { DerivedIsClosed }
 {}
 
 /// What holds over an environment holds over each that tells at least as much.

@@ -7,6 +7,7 @@ use Rattle.lf_core.specs.Environment.{Environment}
 use Rattle.lf_core.specs.Derived.{Stated, Derived, empty, with_axiom, with_value}
 use Rattle.lf_core.specs.declared.constant.ConstInfo.{ConstInfo}
 use Rattle.lf_judgment_laws.specs.InScope.{RulesClosed, ConstantClosed, EnvironmentClosed}
+use Rattle.lf_inductive_laws.specs.Closed.{DerivedIsClosed}
 use Rattle.lf_judgment_laws.proofs.Scopes.{typed_scoped}
 
 pub none_contained : {X : Type 0} (x : X) → Contains [] x → ⊥

@@ -1,0 +1,4 @@
+pub mod Telescopes
+pub mod Recursors
+pub mod Closed
+pub mod Declarations

@@ -1,5 +1,0 @@
-use Rattle.lf_judgment_laws.proofs.Closes.{derived_is_closed}
-use Rattle.lf_judgment_laws.proofs.derived_environments_are_closed.Goals as goal
-
-pub returns : goal.returns
-returns c = derived_is_closed
