@@ -13,7 +13,8 @@ use Rattle.lf_env.specs.Calls.{checked, Calls, seen_as}
 use Rattle.lf_env.specs.Whnf.{turn_limit, whnf_body}
 use Rattle.lf_env.specs.Infer.{of_constant, on_pi, argument_fits, infer_body}
 use Rattle.lf_env.specs.Checker.{turn, calls}
-use Rattle.lf_checker_laws.specs.Soundness.{EndsIn, Post}
+use Rattle.lf_inductive_laws.specs.Declarations.{EndsIn}
+use Rattle.lf_checker_laws.specs.Soundness.{Post}
 use Rattle.lf_checker_laws.proofs.Runs.{post_then, post_any, post_spend, post_choose, post_made}
 
 instantiate_at-apply : (d : ℕ) (a f : Term) (xs : List Term) → instantiate_at d (apply f xs) a ≡ apply (instantiate_at d f a) (map (λ x. instantiate_at d x a) xs)

@@ -10,5 +10,8 @@ pub mod Types
 pub mod Normals
 pub mod Equals
 pub mod All
+pub mod Known
 pub mod Declared
+pub mod Entering
+pub mod Accepted
 pub mod Worked

@@ -1,19 +1,25 @@
 -- What is accepted over a derived environment keeps it derived.
 use Rattle.std.specs.Prelude.{◌≡◌, ◌⊎◌, ℕ, Some, [], ◌∷◌, ◌++◌, length, Contains}
 use Rattle.lf_core.specs.Term.{Path, Term, sort}
-use Rattle.lf_core.specs.Environment.{Environment, Fresh, NamesDeclared, LevelsBelow}
+use Rattle.lf_core.specs.Environment.{Environment, Declared, Fresh, NamesDeclared, LevelsBelow}
 use Rattle.lf_core.specs.Judgment.{HasType}
 use Rattle.lf_core.specs.Derived.{Stated, Derived}
 use Rattle.lf_core.specs.declared.constant.ConstInfo.{ConstInfo}
 use Rattle.lf_core.specs.declared.constant.ConstKind.TheVariants.{Def, Theorem}
+use Rattle.lf_core.specs.declared.constant.Detail.TheVariants.{Ctor}
 use Rattle.lf_env.specs.View.{View, Entry, find_entry, found, lookup_of}
-use Rattle.lf_env.specs.Checker.{add_header, add_decl}
-use Rattle.lf_checker_laws.specs.Soundness.{HeldBeside, Names, ClosedList, Post}
+use Rattle.lf_env.specs.Checker.{calls, add_header, add_decl}
+use Rattle.lf_checker_laws.specs.Soundness.{HeldBeside, Names, ClosedList, Post, Sound}
 
--- The view finds each constant of the list, and what it finds has the name that was asked for.
+abbrev pub FindsAll : View → Environment → Type 0
+FindsAll V E = (c : ConstInfo) → Contains E c → lookup_of V c.name ≡ found c
+
+-- The view finds each constant of the list, and what it finds has the name that was asked for. With a type, the list has the constructors
+-- that the view has of it.
 pub record Knows (V : View) (E : Environment) : Type 0 where
-  pub found_there : (c : ConstInfo) → Contains E c → lookup_of V c.name ≡ found c
+  pub found_there : FindsAll V E
   pub own_name : (n : Path) (c : ConstInfo) → lookup_of V n ≡ found c → c.name ≡ n
+  pub whole : (n : Path) (c : ConstInfo) (ind : Path) (index own fields : ℕ) → lookup_of V n ≡ found c → c.detail ≡ Ctor ind index own fields → Declared E ind → Contains E c
 
 -- With a constant the list has what counts as named beside it.
 abbrev pub HasBeside : View → Environment → Type 0
@@ -22,6 +28,10 @@ HasBeside V E = (c : ConstInfo) → Contains E c → HeldBeside V E c.name
 -- A derived list that the view knows is one over which the checker is sound.
 abbrev pub DerivedIsClosedList : Type 0
 DerivedIsClosedList = (V : View) (E : Environment) → Derived E → Knows V E → HasBeside V E → ClosedList V E
+
+-- Over a derived list that the view knows the checker is sound.
+abbrev pub DerivedSoundness : Type 0
+DerivedSoundness = (V : View) (E : Environment) → Derived E → Knows V E → HasBeside V E → (depth : ℕ) → Sound V E (calls V depth)
 
 abbrev pub AllEntries : View → Environment → Type 0
 AllEntries V E = (c : ConstInfo) → Contains E c → (e : Entry) × (find_entry V.entries c.name ≡ Some e)
@@ -36,4 +46,4 @@ pub record Accepts (V : View) (E : Environment) (depth : ℕ) : Type 0 where
   pub new_value : (c : ConstInfo) (u : ℕ) → AllEntries V E → Post (λ h. Fresh E c.name) (add_decl V depth c u)
 
 abbrev pub AcceptedIsDerived : Type 0
-AcceptedIsDerived = (V : View) (E : Environment) → Derived E → Knows V E → ClosedList V E → (depth : ℕ) → Accepts V E depth
+AcceptedIsDerived = (V : View) (E : Environment) → Derived E → Knows V E → HasBeside V E → (depth : ℕ) → Accepts V E depth

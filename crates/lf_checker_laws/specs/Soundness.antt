@@ -1,7 +1,6 @@
 -- Soundness of the checker: its answers have derivations, over a list of constants that the view knows and that names nothing outside it.
-use Rattle.std.specs.Prelude.{◌≡◌, ◌+◌, ℕ, Bool as Truth, zero, suc, true, false, Some, List, [], ◌∷◌, length, slice_get, Contains, codes}
-use Rattle.lf_core.specs.Term.{Path, Universe, Term, const, app, lam, pi, letin, lit}
-use Rattle.lf_core.specs.Spine.{apply}
+use Rattle.std.specs.Prelude.{◌≡◌, ◌+◌, ℕ, Bool as Truth, true, false, Some, List, [], ◌∷◌, length, slice_get, Contains, codes}
+use Rattle.lf_core.specs.Term.{Path, Term, const, app, lam, pi, letin, lit}
 use Rattle.lf_core.specs.Scope.{Scoped}
 use Rattle.lf_core.specs.Environment.{Environment, Context, nat}
 use Rattle.lf_core.specs.Literal.{literal_operation}
@@ -12,6 +11,7 @@ use Rattle.lf_core.specs.declared.constant.Detail.TheVariants.{Ind, Ctor, Rec}
 use Rattle.lf_core.specs.declared.literal.LitOut.{LitOut}
 use Rattle.lf_core.specs.declared.literal.LitOut.TheVariants.{Nat, Bool}
 use Rattle.lf_judgment_laws.specs.InScope.{EnvironmentClosed}
+use Rattle.lf_inductive_laws.specs.Declarations.{EndsIn}
 use Rattle.lf_env.specs.View.{View, found, lookup_of}
 use Rattle.lf_env.specs.Run.{Answer, done, refused, out, need}
 use Rattle.lf_env.specs.Calls.{checked, Calls}
@@ -69,13 +69,7 @@ PartsHeld V E (Rec ind params minors indices rules) =
     × ((k : ℕ) (r : Term) → slice_get rules k ≡ Some r → Names V E r)
 PartsHeld V E _ = Unit {0}
 
--- The type is n pis and then the constant T at m arguments.
-abbrev pub EndsIn : Path → ℕ → ℕ → Term → Type 0
-EndsIn T zero m A = (ls : List Universe) × (xs : List Term) × (A ≡ apply (const T ls) xs) × (length xs ≡ m)
-EndsIn T (suc n) m (pi x A B) = EndsIn T n m B
-EndsIn T (suc n) m _ = ⊥
-
--- A list of constants that names nothing of the view outside it. The last point is what admission gives of a constructor's type.
+-- A list of constants that names nothing of the view outside it, and in which constructors' types are as admission has them.
 pub record ClosedList (V : View) (E : Environment) : Type 0 where
   pub own_name : (n : Path) (c : ConstInfo) → lookup_of V n ≡ found c → c.name ≡ n
   pub closed : EnvironmentClosed E

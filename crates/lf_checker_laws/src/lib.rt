@@ -1,7 +1,7 @@
 //! Soundness of the plain checker, and its worked answers: each public function's contract is a law.
 #![tactic(auto)]
 
-ghost use Rattle.lf_checker_laws.specs.Declarations.{AcceptedIsDerived, DerivedIsClosedList};
+ghost use Rattle.lf_checker_laws.specs.Declarations.{AcceptedIsDerived, DerivedIsClosedList, DerivedSoundness};
 ghost use Rattle.lf_checker_laws.specs.Levels.{LevelTestIsExact};
 ghost use Rattle.lf_checker_laws.specs.Soundness.{Soundness};
 ghost use Rattle.lf_checker_laws.specs.Worked.{Answers};
@@ -20,6 +20,11 @@ pub fn checker_is_sound()
 /// A derived list of constants that the view knows is one over which the checker is sound.
 pub fn derived_lists_are_closed_lists()
     ensures { DerivedIsClosedList }
+{}
+
+/// Over a derived list that the view knows, inductive declarations among it, what the checker answers has a derivation.
+pub fn checker_is_sound_over_derived_lists()
+    ensures { DerivedSoundness }
 {}
 
 /// What `add_header` and `add_decl` accept over a derived list keeps it derived, under a name that is new.

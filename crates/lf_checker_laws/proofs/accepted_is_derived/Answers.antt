@@ -1,4 +1,4 @@
-use Rattle.lf_checker_laws.proofs.Declared.{accepted_is_derived}
+use Rattle.lf_checker_laws.proofs.Accepted.{accepted_is_derived}
 use Rattle.lf_checker_laws.proofs.accepted_is_derived.Goals as goal
 
 pub returns : goal.returns

@@ -1,0 +1,124 @@
+-- What the test of a declaration accepts is admitted, and keeps a derived list derived.
+use Rattle.std.proofs.Common.{◌≡◌, ℕ, ◌≤◌, nat_le, Bool, true, false, ◌&&◌, Option, Some, None, List, [], ◌∷◌, ◌++◌, length, refl, sym, subst, Contains}
+use Rattle.std.proofs.lemmas.Bool.{and_parts, leb-true}
+use Rattle.std.proofs.lemmas.List.Elements.{Contains-append_left}
+use Rattle.lf_core.specs.Term.{Universe, Term, sort}
+use Rattle.lf_core.specs.Scope.{Scoped}
+use Rattle.lf_core.specs.Environment.{Environment}
+use Rattle.lf_core.specs.Judgment.{result_level}
+use Rattle.lf_core.specs.Telescope.{types, pi_count}
+use Rattle.lf_core.specs.Recursor.{Family, recursor_type, recursor_family, motive_level, recursor_rules}
+use Rattle.lf_core.specs.Inductive.{own_family, type_of, declared, with_type}
+use Rattle.lf_core.specs.Derived.{ConstructorsNamed, Derived, with_inductive}
+use Rattle.lf_core.specs.declared.constant.ConstInfo.{ConstInfo}
+use Rattle.lf_core.specs.declared.constant.CtorInfo.{CtorInfo}
+use Rattle.lf_core.specs.declared.constant.Detail.TheVariants.{Ctor}
+use Rattle.lf_core.specs.declared.constant.IndDecl.{IndDecl}
+use Rattle.lf_judgment_laws.specs.Growth.{Grows}
+use Rattle.lf_judgment_laws.proofs.Grows.{self_tells}
+use Rattle.lf_env.specs.View.{View}
+use Rattle.lf_env.specs.Run.{Run, gives, refuse, choose, not_closed, bad_type}
+use Rattle.lf_env.specs.Calls.{checked, Calls}
+use Rattle.lf_env.specs.Infer.{sort_of}
+use Rattle.lf_env.specs.Checker.{calls, is_closed}
+use Rattle.lf_env.specs.Admission.{Read, admit_constructors, eliminates_everywhere, put_all, given, on_result, view_with_type, admit, are_closed, unless_declared, add_inductive}
+use Rattle.lf_inductive_laws.specs.Telescopes.{InSorts}
+use Rattle.lf_checker_laws.specs.Soundness.{ClosedList, Post, Sound}
+use Rattle.lf_checker_laws.specs.Soundness as sound
+use Rattle.lf_checker_laws.specs.Declarations.{Knows, HasBeside, AllEntries}
+use Rattle.lf_checker_laws.proofs.Runs.{post_then, post_map, post_choose, post_put}
+use Rattle.lf_checker_laws.proofs.Types.{InSort, sort_sound}
+use Rattle.lf_checker_laws.proofs.All.{calls_sound}
+use Rattle.lf_checker_laws.proofs.Known.{names_of}
+use Rattle.lf_checker_laws.proofs.Entering.{scoped_is}
+use Rattle.lf_admission_laws.specs.Admission.{Names, Admits, Accepts}
+use Rattle.lf_admission_laws.proofs.Constructors.{domains_typed, sorts_grow}
+use Rattle.lf_admission_laws.proofs.Reading.{ReadsAll, TypesFit, constructors_sound, all_right, eliminates}
+use Rattle.lf_admission_laws.proofs.Pushed.{Added, added_is_closed}
+use Rattle.lf_admission_laws.proofs.New_names.{NamesNew, declared_sound, all_fresh}
+
+put_all_sound : {A : Type 0} (Q : A → Type 0) (ts : List Term) (m : Run A) (u : ℕ) → ((v : ℕ) → Post Q (m v)) → Post Q (put_all ts m u)
+put_all_sound Q [] m u h = h u
+put_all_sound Q (t ∷ ts) m u h = post_then (λ s. Unit {0}) Q _ _ (post_put (λ s. Unit {0}) t u tt) λ s v z. put_all_sound Q ts m v h
+
+given_sound : (Q : List ConstInfo → Type 0) (d : IndDecl) (large : Bool) (u : ℕ) → Q (declared d large) → Post Q (given d large u)
+given_sound Q d large u h = put_all_sound Q (recursor_type (recursor_family d large) (motive_level large) ∷ recursor_rules d large) (gives (declared d large)) u (λ v. h)
+
+on_result_sound : {A : Type 0} (Q : A → Type 0) (o : Option Universe) (f : Universe → Run A) (u : ℕ) → ((r : Universe) → o ≡ Some r → Post Q (f r u)) → Post Q (on_result o f u)
+on_result_sound Q (Some r) f u h = h r refl
+on_result_sound Q None f u h = tt
+
+-- Closed types of constructors that name the list with the type.
+abbrev pub ClosedTypes : List CtorInfo → Type 0
+ClosedTypes [] = Unit {0}
+ClosedTypes (c ∷ cs) = Scoped 0 0 c.ty × ClosedTypes cs
+
+closed_types : (cs : List CtorInfo) → are_closed cs ≡ true → ClosedTypes cs
+closed_types [] e = tt
+closed_types (c ∷ cs) e = let p = and_parts (is_closed c.ty) (are_closed cs) e in (scoped_is 0 c.ty p.0, closed_types cs p.1)
+
+longer : (E : Environment) (d : IndDecl) → Grows E (with_type E d)
+longer E d c w = (c, Contains-append_left E (type_of d false ∷ []) c w, self_tells c)
+
+-- What is asked of view, list and declaration.
+pub record Ready (V : View) (E : Environment) (d : IndDecl) : Type 0 where
+  pub entries : AllEntries V E
+  pub list : ClosedList V E
+  pub names : Names V E d
+  pub type_named : sound.Names V E d.ty
+  pub added : Scoped 0 0 d.ty → NamesNew V d → Added V E d
+  pub types_named : NamesNew V d → (cs : List CtorInfo) → ConstructorsNamed (with_type E d) d cs → ClosedTypes cs → TypesFit (view_with_type V d) (with_type E d) cs
+
+introduced_by : (V : View) (E : Environment) (d : IndDecl) → Ready V E d → NamesNew V d → ClosedTypes d.ctors → (l r : Universe) (ks : List Read) → InSort E [] d.ty l → d.params ≤ pi_count d.ty → result_level d.ty ≡ Some r
+    → ReadsAll (with_type E d) (own_family d) r d.ctors ks → Admits E d (declared d (eliminates_everywhere (own_family d) r ks))
+introduced_by V E d k n cl l r ks t p q h =
+    let F : Environment = with_type E d in
+    let f : Family = own_family d in
+    let fit : TypesFit (view_with_type V d) F d.ctors = k.types_named n d.ctors k.names.constructors cl in
+    let sorts : InSorts F [] (types f.params) = sorts_grow E F (longer E d) [] (types f.params) (domains_typed E [] d.params d.ty (l, t)) in
+    let large : Bool = eliminates_everywhere f r ks in
+    record {
+      large = large;
+      is = refl;
+      introduced = record {
+        fresh = all_fresh V E d large k.entries n;
+        admitted = record {
+          level = l;
+          typed = t;
+          params = p;
+          result = r;
+          ends = q;
+          constructors = all_right (view_with_type V d) F f r d.ctors ks sorts fit h;
+          elimination = eliminates (view_with_type V d) F f r d.ctors ks sorts fit h;
+        };
+        named = k.names.named;
+        levels = k.names.levels;
+        constructors = k.names.constructors;
+      };
+    }
+
+admit_sound : (V : View) (E : Environment) (d : IndDecl) (depth : ℕ) → Ready V E d → Scoped 0 0 d.ty → ClosedTypes d.ctors → NamesNew V d → (u : ℕ) → Post (Admits E d) (admit V depth d u)
+admit_sound V E d depth k sd cl n u =
+    let W : View = view_with_type V d in
+    let F : Environment = with_type E d in
+    let f : Family = own_family d in
+    let Q : List ConstInfo → Type 0 = Admits E d in
+    let s : Sound W F (calls W depth) = calls_sound W F (added_is_closed V E d (k.added sd n)) depth in
+    post_then (InSort E [] d.ty) Q (sort_of (calls V depth) checked [] d.ty u) _ (sort_sound V E (calls V depth) (calls_sound V E k.list depth) [] d.ty u tt (sd, k.type_named)) λ l v hl.
+    post_choose Q (nat_le d.params (pi_count d.ty)) _ (refuse bad_type) v
+    (λ e. on_result_sound Q (result_level d.ty) _ v λ r q.
+    post_then (ReadsAll F f r d.ctors) Q (admit_constructors (calls W depth) f r d.ctors v) _ (constructors_sound W F (calls W depth) s f r d.ctors v (k.types_named n d.ctors k.names.constructors cl)) λ ks w hs.
+    given_sound Q d (eliminates_everywhere f r ks) w (introduced_by V E d k n cl l r ks hl (leb-true d.params (pi_count d.ty) e) q hs))
+    (λ e. tt)
+
+add_sound : (V : View) (E : Environment) (d : IndDecl) (depth : ℕ) → Ready V E d → (u : ℕ) → Post (Admits E d) (add_inductive V depth d u)
+add_sound V E d depth k u =
+    post_choose (Admits E d) (is_closed d.ty && are_closed d.ctors) (unless_declared V d (admit V depth d)) (refuse not_closed) u
+    (λ e. let p = and_parts (is_closed d.ty) (are_closed d.ctors) e in declared_sound (Admits E d) V d (admit V depth d) u λ n. admit_sound V E d depth k (scoped_is 0 d.ty p.0) (closed_types d.ctors p.1) n u)
+    (λ e. tt)
+
+pub accepts : (V : View) (E : Environment) (depth : ℕ) → Derived E → ((d : IndDecl) → Names V E d → Ready V E d) → Accepts V E depth
+accepts V E depth h ready = record {
+  admitted = λ d u n. add_sound V E d depth (ready d n) u;
+  derived = λ d u n. post_map (Admits E d) (λ cs. Derived (E ++ cs)) (add_inductive V depth d u) (add_sound V E d depth (ready d n) u) λ cs a. subst (λ x. Derived (E ++ x)) (sym a.is) (with_inductive d a.large h a.introduced);
+}

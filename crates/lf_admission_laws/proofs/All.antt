@@ -1,0 +1,69 @@
+-- Over a derived list that the view knows, what is accepted is admitted.
+use Rattle.std.proofs.Common.{◌≡◌, ◌⊎◌, inl, inr, ℕ, zero, suc, Bool, true, false, Option, Some, None, List, [], ◌∷◌, ◌++◌, refl, sym, ap, subst, ◌∙◌, arith, Contains}
+use Rattle.std.proofs.lemmas.List.Elements.{Contains-append_cases}
+use Rattle.lf_core.specs.Term.{Path, Term}
+use Rattle.lf_core.specs.Scope.{Scoped}
+use Rattle.lf_core.specs.Environment.{Environment, Fresh}
+use Rattle.lf_core.specs.Inductive.{type_of, with_type}
+use Rattle.lf_core.specs.Derived.{ConstructorsNamed, Derived}
+use Rattle.lf_core.specs.declared.constant.ConstInfo.{ConstInfo}
+use Rattle.lf_core.specs.declared.constant.CtorInfo.{CtorInfo}
+use Rattle.lf_core.specs.declared.constant.Detail.{Detail}
+use Rattle.lf_core.specs.declared.constant.Detail.TheVariants.{Plain, Ind, Ctor, Rec}
+use Rattle.lf_core.specs.declared.constant.IndDecl.{IndDecl}
+use Rattle.lf_env.specs.View.{View, Entry, find_entry, found, lookup_of, by_entry}
+use Rattle.lf_env.specs.Admission.{view_with_type}
+use Rattle.lf_inductive_laws.specs.Declarations.{ConstructorDeclared}
+use Rattle.lf_inductive_laws.proofs.Declared.{as_declared}
+use Rattle.lf_checker_laws.specs.Soundness.{HeldBeside, ClosedList}
+use Rattle.lf_checker_laws.specs.Declarations.{FindsAll, Knows, HasBeside, AllEntries}
+use Rattle.lf_checker_laws.proofs.Views.{found_is}
+use Rattle.lf_checker_laws.proofs.Known.{names_of}
+use Rattle.lf_checker_laws.proofs.Declared.{derived_is_closed_list}
+use Rattle.lf_checker_laws.proofs.Entering.{not_entry, fresh_if}
+use Rattle.lf_admission_laws.specs.Admission.{Names, AdmissionIsSound}
+use Rattle.lf_admission_laws.proofs.Reading.{TypesFit}
+use Rattle.lf_admission_laws.proofs.Pushed.{entry_before, entry_new, Added, beside_grows, names_grow, of_all}
+use Rattle.lf_admission_laws.proofs.New_names.{NamesNew}
+use Rattle.lf_admission_laws.proofs.Accepted.{ClosedTypes, Ready, accepts}
+
+-- What the constructor of a derived list is a constructor of is declared there.
+constructor_name : (E : Environment) (c : ConstInfo) (ind : Path) (index own fields : ℕ) (k : ConstructorDeclared E c) → c.detail ≡ Ctor ind index own fields → k.at.declaration.name ≡ ind
+constructor_name E c ind index own fields k q = ap named_by (sym (ap (λ x. x.detail) k.is) ∙ q)
+  where
+    named_by : Detail → Path
+    named_by (Ctor i j p f) = i
+    named_by Plain = []
+    named_by (Ind p j cs l) = []
+    named_by (Rec i p m j rs) = []
+
+no_other : (V : View) (E : Environment) (d : IndDecl) → Derived E → AllEntries V E → NamesNew V d → (c : ConstInfo) (index own fields : ℕ) → Contains E c → c.detail ≡ Ctor d.name index own fields → ⊥
+no_other V E d h all n c index own fields w q =
+    let k : ConstructorDeclared E c = (as_declared E h).constructors c d.name index own fields w q in
+    let t : ConstInfo = type_of k.at.declaration k.at.large in
+    fresh_if V E d.name all n.type (t, k.at.within t (zero, omega arith, refl), constructor_name E c d.name index own fields k q)
+
+-- The longer view finds each constant of the longer list.
+finds_all : (V : View) (E : Environment) (d : IndDecl) → FindsAll V E → AllEntries V E → NamesNew V d → FindsAll (view_with_type V d) (with_type E d)
+finds_all V E d k all n = of_all E d (λ c. lookup_of (view_with_type V d) c.name ≡ found c) (λ c w. old c (k c w) (all c w)) (ap (by_entry (view_with_type V d) d.name) (entry_new V d (not_entry V d.name (find_entry V.entries d.name) n.type)))
+  where
+    old : (c : ConstInfo) → lookup_of V c.name ≡ found c → (e : Entry) × (find_entry V.entries c.name ≡ Some e) → lookup_of (view_with_type V d) c.name ≡ found c
+    old c q e = ap (by_entry (view_with_type V d) c.name) (entry_before V d c.name e.0 e.1) ∙ sym (ap (by_entry V c.name) e.1) ∙ q
+
+types_named : (V : View) (E : Environment) (d : IndDecl) → FindsAll V E → HasBeside V E → (cs : List CtorInfo) → ConstructorsNamed E d cs → ClosedTypes cs → TypesFit V E cs
+types_named V E d f b [] h s = tt
+types_named V E d f b (c ∷ cs) h s = ((s.0, names_of V E f b c.ty h.0.0), types_named V E d f b cs h.1 s.1)
+
+pub admission_is_sound : AdmissionIsSound
+admission_is_sound V E h k b all depth = accepts V E depth h λ d n.
+    let list : ClosedList V E = derived_is_closed_list V E h k b in
+    let named = names_of V E k.found_there b d.ty n.named in
+    record {
+      entries = all;
+      list = list;
+      names = n;
+      type_named = named;
+      added = λ s new. record { list = list; closed = s; beside = n.beside; named = names_grow V E d d.ty named; fresh = no_other V E d h all new };
+      types_named = λ new. types_named (view_with_type V d) (with_type E d) d (finds_all V E d k.found_there all new)
+          (of_all E d (λ c. HeldBeside (view_with_type V d) (with_type E d) c.name) (λ c w. beside_grows V E d c.name (b c w)) n.beside);
+    }

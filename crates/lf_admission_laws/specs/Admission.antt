@@ -1,0 +1,31 @@
+-- What the test of an inductive declaration accepts over a derived list is admitted, and keeps the list derived.
+use Rattle.std.specs.Prelude.{◌≡◌, ℕ, Bool, List, ◌++◌, length}
+use Rattle.lf_core.specs.Environment.{Environment, NamesDeclared, LevelsBelow}
+use Rattle.lf_core.specs.Inductive.{declared, with_type}
+use Rattle.lf_core.specs.Derived.{ConstructorsNamed, Introduced, Derived}
+use Rattle.lf_core.specs.declared.constant.ConstInfo.{ConstInfo}
+use Rattle.lf_core.specs.declared.constant.IndDecl.{IndDecl}
+use Rattle.lf_env.specs.View.{View}
+use Rattle.lf_env.specs.Admission.{view_with_type, add_inductive}
+use Rattle.lf_checker_laws.specs.Soundness.{HeldBeside, Post}
+use Rattle.lf_checker_laws.specs.Declarations.{Knows, HasBeside, AllEntries}
+
+-- The declaration names only the list and its own type, at its own levels; and the list has what counts as named beside that type.
+pub record Names (V : View) (E : Environment) (d : IndDecl) : Type 0 where
+  pub named : NamesDeclared E d.ty
+  pub levels : LevelsBelow (length d.levels) d.ty
+  pub constructors : ConstructorsNamed (with_type E d) d d.ctors
+  pub beside : HeldBeside (view_with_type V d) (with_type E d) d.name
+
+-- The constants that are given are those of the declaration, which is admitted.
+pub record Admits (E : Environment) (d : IndDecl) (given : List ConstInfo) : Type 0 where
+  pub large : Bool
+  pub is : given ≡ declared d large
+  pub introduced : Introduced E d large
+
+pub record Accepts (V : View) (E : Environment) (depth : ℕ) : Type 0 where
+  pub admitted : (d : IndDecl) (u : ℕ) → Names V E d → Post (Admits E d) (add_inductive V depth d u)
+  pub derived : (d : IndDecl) (u : ℕ) → Names V E d → Post (λ given. Derived (E ++ given)) (add_inductive V depth d u)
+
+abbrev pub AdmissionIsSound : Type 0
+AdmissionIsSound = (V : View) (E : Environment) → Derived E → Knows V E → HasBeside V E → AllEntries V E → (depth : ℕ) → Accepts V E depth

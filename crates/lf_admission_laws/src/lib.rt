@@ -1,0 +1,9 @@
+//! Soundness of the test of inductive declarations: each public function's contract is a law.
+#![tactic(auto)]
+
+ghost use Rattle.lf_admission_laws.specs.Admission.{AdmissionIsSound};
+
+/// What `add_inductive` accepts over a derived list, under names that the list has, is admitted and keeps the list derived.
+pub fn accepted_is_admitted()
+    ensures { AdmissionIsSound }
+{}
