@@ -1,1 +1,3 @@
-pub mod Closes
+pub mod Telescopes
+pub mod Places
+pub mod Places_of_telescopes
