@@ -1,3 +1,6 @@
 pub mod Telescopes
 pub mod Places
 pub mod Places_of_telescopes
+pub mod Places_of_recursors
+pub mod Contained
+pub mod Recursors

@@ -5,7 +5,7 @@ use Rattle.lf_core.specs.Substitution.{raise, instantiate_at, instantiate, abstr
 use Rattle.lf_core.specs.Scope.{Scoped}
 use Rattle.lf_core.specs.Environment.{Environment, Context, with, opened}
 use Rattle.lf_core.specs.Judgment.{HasType, pi_type}
-use Rattle.lf_core.specs.Telescope.{Local, Telescope, types, pis_over, Opened, behind, open_pis}
+use Rattle.lf_core.specs.Telescope.{Local, Telescope, types, pis_over, Opened, behind, open_pis, pi_count}
 use Rattle.lf_judgment_laws.specs.InScope.{AllScoped, ContextScoped}
 use Rattle.lf_judgment_laws.proofs.Variables.{by_eq, by_lt, scoped_up, scoped_instantiate, scoped_abstract_at, instantiate_at-abstract_at, length-with, scoped_closed, opened-abstract}
 use Rattle.lf_judgment_laws.proofs.Scopes.{typed_scoped}
@@ -73,6 +73,21 @@ open_scoped k (suc n) (pi x A B) s =
     record { locals = (s.0, r.locals); rest = subst (λ m. Scoped 0 m o.rest) e r.rest }
 open_scoped k zero t s = spread_none k t s
 open_scoped k (suc n) t s = spread_none k t s
+
+-- Opening leaves the number of pis, so as many are opened as there are, up to n.
+pub pi_count-instantiate_at : (d k : ℕ) (t : Term) → pi_count (instantiate_at d t (free k)) ≡ pi_count t
+pi_count-instantiate_at d k (bound i) =
+    by_lt (λ r. pi_count r ≡ 0) i d (bound i) (if nat_eq i d then raise 0 d (free k) else bound (i - 1)) (λ e. refl) λ e.
+    by_eq (λ r. pi_count r ≡ 0) i d (free k) (bound (i - 1)) (λ q. refl) (λ q. refl)
+pi_count-instantiate_at d k (pi x A B) = ap suc (pi_count-instantiate_at (suc d) k B)
+pi_count-instantiate_at d k _ = refl
+
+pub length-opened : (k n : ℕ) (t : Term) → n ≤ pi_count t → length (open_pis k n t).locals ≡ n
+length-opened k zero t h = refl
+length-opened k (suc n) (pi x A B) h =
+    let e : length (open_pis (suc k) n (instantiate B (free k))).locals ≡ n = length-opened (suc k) n (instantiate B (free k)) (omega (arith, pi_count-instantiate_at 0 k B)) in
+    omega arith
+length-opened k (suc n) t h = absurd (omega arith)
 
 pub length-types : (xs : Telescope) → length (types xs) ≡ length xs
 length-types [] = refl
