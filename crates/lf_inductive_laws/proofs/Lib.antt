@@ -4,3 +4,5 @@ pub mod Places_of_telescopes
 pub mod Places_of_recursors
 pub mod Contained
 pub mod Recursors
+pub mod Right
+pub mod Closes
