@@ -6,3 +6,6 @@ pub mod Contained
 pub mod Recursors
 pub mod Right
 pub mod Closes
+pub mod Ends
+pub mod Distinct
+pub mod Declared
