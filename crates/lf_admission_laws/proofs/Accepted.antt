@@ -1,8 +1,8 @@
 -- What the test of a declaration accepts is admitted, and keeps a derived list derived.
-use Rattle.std.proofs.Common.{◌≡◌, ℕ, ◌≤◌, nat_le, Bool, true, false, ◌&&◌, Option, Some, None, List, [], ◌∷◌, ◌++◌, length, refl, sym, subst, Contains}
+use Rattle.std.proofs.Common.{◌≡◌, ℕ, ◌≤◌, nat_le, Bool, true, false, ◌&&◌, Option, Some, None, List, [], ◌∷◌, ◌++◌, refl, sym, subst}
 use Rattle.std.proofs.lemmas.Bool.{and_parts, leb-true}
 use Rattle.std.proofs.lemmas.List.Elements.{Contains-append_left}
-use Rattle.lf_core.specs.Term.{Universe, Term, sort}
+use Rattle.lf_core.specs.Term.{Universe, Term}
 use Rattle.lf_core.specs.Scope.{Scoped}
 use Rattle.lf_core.specs.Environment.{Environment}
 use Rattle.lf_core.specs.Judgment.{result_level}
@@ -12,24 +12,22 @@ use Rattle.lf_core.specs.Inductive.{own_family, type_of, declared, with_type}
 use Rattle.lf_core.specs.Derived.{ConstructorsNamed, Derived, with_inductive}
 use Rattle.lf_core.specs.declared.constant.ConstInfo.{ConstInfo}
 use Rattle.lf_core.specs.declared.constant.CtorInfo.{CtorInfo}
-use Rattle.lf_core.specs.declared.constant.Detail.TheVariants.{Ctor}
 use Rattle.lf_core.specs.declared.constant.IndDecl.{IndDecl}
 use Rattle.lf_judgment_laws.specs.Growth.{Grows}
 use Rattle.lf_judgment_laws.proofs.Grows.{self_tells}
 use Rattle.lf_env.specs.View.{View}
-use Rattle.lf_env.specs.Run.{Run, gives, refuse, choose, not_closed, bad_type}
-use Rattle.lf_env.specs.Calls.{checked, Calls}
+use Rattle.lf_env.specs.Run.{Run, gives, refuse, not_closed, bad_type}
+use Rattle.lf_env.specs.Calls.{checked}
 use Rattle.lf_env.specs.Infer.{sort_of}
 use Rattle.lf_env.specs.Checker.{calls, is_closed}
 use Rattle.lf_env.specs.Admission.{Read, admit_constructors, eliminates_everywhere, put_all, given, on_result, view_with_type, admit, are_closed, unless_declared, add_inductive}
 use Rattle.lf_inductive_laws.specs.Telescopes.{InSorts}
 use Rattle.lf_checker_laws.specs.Soundness.{ClosedList, Post, Sound}
 use Rattle.lf_checker_laws.specs.Soundness as sound
-use Rattle.lf_checker_laws.specs.Declarations.{Knows, HasBeside, AllEntries}
+use Rattle.lf_checker_laws.specs.Declarations.{AllEntries}
 use Rattle.lf_checker_laws.proofs.Runs.{post_then, post_map, post_choose, post_put}
 use Rattle.lf_checker_laws.proofs.Types.{InSort, sort_sound}
 use Rattle.lf_checker_laws.proofs.All.{calls_sound}
-use Rattle.lf_checker_laws.proofs.Known.{names_of}
 use Rattle.lf_checker_laws.proofs.Entering.{scoped_is}
 use Rattle.lf_admission_laws.specs.Admission.{Names, Admits, Accepts}
 use Rattle.lf_admission_laws.proofs.Constructors.{domains_typed, sorts_grow}

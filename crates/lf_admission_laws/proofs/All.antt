@@ -1,9 +1,7 @@
 -- Over a derived list that the view knows, what is accepted is admitted.
-use Rattle.std.proofs.Common.{◌≡◌, ◌⊎◌, inl, inr, ℕ, zero, suc, Bool, true, false, Option, Some, None, List, [], ◌∷◌, ◌++◌, refl, sym, ap, subst, ◌∙◌, arith, Contains}
-use Rattle.std.proofs.lemmas.List.Elements.{Contains-append_cases}
-use Rattle.lf_core.specs.Term.{Path, Term}
-use Rattle.lf_core.specs.Scope.{Scoped}
-use Rattle.lf_core.specs.Environment.{Environment, Fresh}
+use Rattle.std.proofs.Common.{◌≡◌, ℕ, zero, Some, List, [], ◌∷◌, refl, sym, ap, ◌∙◌, arith, Contains}
+use Rattle.lf_core.specs.Term.{Path}
+use Rattle.lf_core.specs.Environment.{Environment}
 use Rattle.lf_core.specs.Inductive.{type_of, with_type}
 use Rattle.lf_core.specs.Derived.{ConstructorsNamed, Derived}
 use Rattle.lf_core.specs.declared.constant.ConstInfo.{ConstInfo}
@@ -16,16 +14,15 @@ use Rattle.lf_env.specs.Admission.{view_with_type}
 use Rattle.lf_inductive_laws.specs.Declarations.{ConstructorDeclared}
 use Rattle.lf_inductive_laws.proofs.Declared.{as_declared}
 use Rattle.lf_checker_laws.specs.Soundness.{HeldBeside, ClosedList}
-use Rattle.lf_checker_laws.specs.Declarations.{FindsAll, Knows, HasBeside, AllEntries}
-use Rattle.lf_checker_laws.proofs.Views.{found_is}
+use Rattle.lf_checker_laws.specs.Declarations.{FindsAll, HasBeside, AllEntries}
 use Rattle.lf_checker_laws.proofs.Known.{names_of}
 use Rattle.lf_checker_laws.proofs.Declared.{derived_is_closed_list}
 use Rattle.lf_checker_laws.proofs.Entering.{not_entry, fresh_if}
-use Rattle.lf_admission_laws.specs.Admission.{Names, AdmissionIsSound}
+use Rattle.lf_admission_laws.specs.Admission.{AdmissionIsSound}
 use Rattle.lf_admission_laws.proofs.Reading.{TypesFit}
-use Rattle.lf_admission_laws.proofs.Pushed.{entry_before, entry_new, Added, beside_grows, names_grow, of_all}
+use Rattle.lf_admission_laws.proofs.Pushed.{entry_before, entry_new, beside_grows, names_grow, of_all}
 use Rattle.lf_admission_laws.proofs.New_names.{NamesNew}
-use Rattle.lf_admission_laws.proofs.Accepted.{ClosedTypes, Ready, accepts}
+use Rattle.lf_admission_laws.proofs.Accepted.{ClosedTypes, accepts}
 
 -- What the constructor of a derived list is a constructor of is declared there.
 constructor_name : (E : Environment) (c : ConstInfo) (ind : Path) (index own fields : ℕ) (k : ConstructorDeclared E c) → c.detail ≡ Ctor ind index own fields → k.at.declaration.name ≡ ind

@@ -1,11 +1,10 @@
 -- A constructor's type is a type, from the rules along its pis; and a type of pis has domains in sorts.
-use Rattle.std.proofs.Common.{◌≡◌, ℕ, zero, suc, List, [], ◌∷◌, length, sym, subst}
-use Rattle.lf_core.specs.Term.{Universe, level_imax, Term, free, sort, pi}
-use Rattle.lf_core.specs.Substitution.{instantiate}
+use Rattle.std.proofs.Common.{ℕ, zero, suc, List, [], ◌∷◌, length, subst}
+use Rattle.lf_core.specs.Term.{Universe, level_imax, Term, sort, pi}
 use Rattle.lf_core.specs.Scope.{Scoped}
 use Rattle.lf_core.specs.Environment.{Environment, Context, with, opened}
 use Rattle.lf_core.specs.Judgment.{HasType, pi_type, conversion}
-use Rattle.lf_core.specs.Telescope.{Telescope, types, Opened, open_pis}
+use Rattle.lf_core.specs.Telescope.{Telescope, types, open_pis}
 use Rattle.lf_core.specs.Recursor.{Family}
 use Rattle.lf_core.specs.Inductive.{Fields, end, field, Constructs, fields, parameter}
 use Rattle.lf_core.specs.declared.binder.Binder.{Binder}

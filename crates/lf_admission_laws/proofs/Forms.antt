@@ -1,10 +1,9 @@
 -- What the tests of form tell of a field, of an end, and of levels.
-use Rattle.std.proofs.Common.{◌≡◌, ◌⊎◌, inl, inr, ℕ, zero, suc, ◌<◌, Bool, true, false, not, ◌&&◌, ◌||◌, nat_eq, List, [], ◌∷◌, length, refl, sym, subst, ◌∙◌, arith, true≢false, Contains}
+use Rattle.std.proofs.Common.{◌≡◌, ◌⊎◌, inl, inr, ℕ, zero, suc, Bool, true, false, not, ◌&&◌, ◌||◌, nat_eq, List, [], ◌∷◌, length, refl, sym, subst, ◌∙◌, arith, true≢false, Contains}
 use Rattle.std.proofs.lemmas.Bool.{eqb-true, and_parts, or_parts, not-true}
-use Rattle.std.specs.Str.{bytes_eq}
 use Rattle.std.proofs.lemmas.Slice.Eq.{bytes_eq-Decides}
 use Rattle.lf_core.specs.Term.{Path, Universe, level_zero, level_succ, Term, bound, free, meta, sort, const, app, lam, pi, letin, lit}
-use Rattle.lf_core.specs.Level.{value_of, Leq, Same}
+use Rattle.lf_core.specs.Level.{Leq, Same}
 use Rattle.lf_core.specs.Same.{same_path, same}
 use Rattle.lf_core.specs.Spine.{apply}
 use Rattle.lf_core.specs.Telescope.{pi_count}

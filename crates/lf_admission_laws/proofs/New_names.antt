@@ -1,5 +1,5 @@
 -- The names of a declaration that passes the tests of names are new, each when its turn comes.
-use Rattle.std.proofs.Common.{◌≡◌, ◌⊎◌, inl, inr, ℕ, zero, suc, Bool, true, false, ◌||◌, List, [], ◌∷◌, ◌++◌, length, length-append, refl, sym, ap, subst, ◌∙◌, arith, true≢false, append_assoc, Contains}
+use Rattle.std.proofs.Common.{◌≡◌, ◌⊎◌, inl, inr, ℕ, zero, suc, Bool, true, false, List, [], ◌∷◌, ◌++◌, length, length-append, sym, ap, subst, ◌∙◌, arith, true≢false, Contains}
 use Rattle.std.proofs.lemmas.Bool.{or_parts, or_left, or_right}
 use Rattle.std.proofs.lemmas.List.Elements.{Contains-append_cases}
 use Rattle.std.specs.Prelude.{codes}
@@ -12,8 +12,8 @@ use Rattle.lf_core.specs.Derived.{AllFresh}
 use Rattle.lf_core.specs.declared.constant.ConstInfo.{ConstInfo}
 use Rattle.lf_core.specs.declared.constant.CtorInfo.{CtorInfo}
 use Rattle.lf_core.specs.declared.constant.IndDecl.{IndDecl}
-use Rattle.lf_env.specs.View.{View, there, not_there, not_known, there_of}
-use Rattle.lf_env.specs.Run.{Run, refuse, choose, duplicate}
+use Rattle.lf_env.specs.View.{View, not_there, there_of}
+use Rattle.lf_env.specs.Run.{Run, refuse, duplicate}
 use Rattle.lf_env.specs.Checker.{unless_there}
 use Rattle.lf_env.specs.Admission.{unless_taken, unless_declared}
 use Rattle.lf_checker_laws.specs.Soundness.{Post}

@@ -1,13 +1,12 @@
 -- A view and a list with the type of a declaration added: over them the checker is sound as well.
-use Rattle.std.proofs.Common.{◌≡◌, ◌⊎◌, inl, inr, ℕ, zero, suc, ◌+◌, Bool, true, false, ◌&&◌, if◌then◌else◌, Option, Some, None, List, [], ◌∷◌, ◌++◌, length, refl, sym, ap, subst, ◌∙◌, arith, slice_get, Contains}
+use Rattle.std.proofs.Common.{◌≡◌, ◌⊎◌, inl, inr, ℕ, zero, suc, ◌+◌, Bool, true, false, if◌then◌else◌, Option, Some, None, List, [], ◌∷◌, ◌++◌, refl, sym, ap, subst, ◌∙◌, arith, Contains}
 use Rattle.std.proofs.lemmas.Bool.{cond_both, or_from, and_right}
 use Rattle.std.proofs.lemmas.List.Elements.{Contains-append_cases, Contains-append_left, Contains-append_right}
 use Rattle.lf_core.specs.Term.{Path, Term, bound, free, meta, sort, const, app, lam, pi, letin, lit}
 use Rattle.lf_core.specs.Same.{same_path}
 use Rattle.lf_core.specs.Scope.{Scoped}
-use Rattle.lf_core.specs.Environment.{Environment, Fresh, nat}
-use Rattle.lf_core.specs.Literal.{literal_operation}
-use Rattle.lf_core.specs.Inductive.{type_of, constructor_names, with_type}
+use Rattle.lf_core.specs.Environment.{Environment, nat}
+use Rattle.lf_core.specs.Inductive.{type_of, with_type}
 use Rattle.lf_core.specs.declared.constant.ConstInfo.{ConstInfo}
 use Rattle.lf_core.specs.declared.constant.ConstKind.TheVariants.{Inductive}
 use Rattle.lf_core.specs.declared.constant.Detail.{Detail}
@@ -15,8 +14,8 @@ use Rattle.lf_core.specs.declared.constant.Detail.TheVariants.{Plain, Ind, Ctor,
 use Rattle.lf_core.specs.declared.constant.IndDecl.{IndDecl}
 use Rattle.lf_core.specs.declared.literal.LitOut.{LitOut}
 use Rattle.lf_core.specs.declared.literal.LitOut.TheVariants as literal
-use Rattle.lf_judgment_laws.specs.InScope.{ConstantClosed, EnvironmentClosed}
-use Rattle.lf_env.specs.View.{View, Entry, Lookup, found, absent, need_body, need_real, find_entry, branch_over, parent_of, last_of, is_suffix, fits_suffix, by_parent, by_suffix, by_branch, by_entry, lookup_of}
+use Rattle.lf_judgment_laws.specs.InScope.{ConstantClosed}
+use Rattle.lf_env.specs.View.{View, Entry, found, absent, need_body, find_entry, branch_over, parent_of, last_of, is_suffix, fits_suffix, by_parent, by_suffix, by_branch, by_entry, lookup_of}
 use Rattle.lf_inductive_laws.specs.Declarations.{EndsIn}
 use Rattle.lf_env.specs.Admission.{view_with_type}
 use Rattle.lf_checker_laws.specs.Soundness.{Held, HeldValue, HeldBeside, Names, PartsHeld, ClosedList}

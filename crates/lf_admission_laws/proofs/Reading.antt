@@ -1,23 +1,20 @@
 -- What the walks along a constructor's type accept is what the rules say.
-use Rattle.std.proofs.Common.{◌≡◌, ◌⊎◌, inl, inr, ℕ, zero, suc, ◌<◌, Bool, true, ◌||◌, List, [], ◌∷◌, length, refl, sym, subst, ◌∙◌, arith}
-use Rattle.lf_core.specs.Term.{Path, Universe, level_zero, Term, bound, free, meta, sort, const, app, lam, pi, letin, lit}
-use Rattle.lf_core.specs.Level.{Leq, Same}
+use Rattle.std.proofs.Common.{◌≡◌, ◌⊎◌, inl, inr, ℕ, zero, suc, true, List, [], ◌∷◌, length}
+use Rattle.lf_core.specs.Term.{Path, Universe, Term, bound, free, meta, sort, const, app, lam, pi, letin, lit}
 use Rattle.lf_core.specs.Same.{same}
-use Rattle.lf_core.specs.Scope.{Scoped}
 use Rattle.lf_core.specs.Environment.{Environment, Context, with, opened}
-use Rattle.lf_core.specs.Judgment.{HasType}
-use Rattle.lf_core.specs.Telescope.{Local, Telescope, types, pi_count}
-use Rattle.lf_core.specs.Recursor.{Family, indices_of}
-use Rattle.lf_core.specs.Inductive.{Fields, end, field, Constructs, fields, parameter, ConstructorRight, ConstructorsRight, NeverZero, ProofsOrIndices, EliminatesEverywhere}
+use Rattle.lf_core.specs.Telescope.{Telescope, types, pi_count}
+use Rattle.lf_core.specs.Recursor.{Family}
+use Rattle.lf_core.specs.Inductive.{Fields, end, field, Constructs, fields, parameter, ConstructorsRight, NeverZero, ProofsOrIndices, EliminatesEverywhere}
 use Rattle.lf_core.specs.declared.constant.CtorInfo.{CtorInfo}
 use Rattle.lf_env.specs.View.{View}
-use Rattle.lf_env.specs.Run.{Run, ◌>>=◌, gives, refuse, choose, under, opening, not_positive, bad_result, level_too_high}
+use Rattle.lf_env.specs.Run.{refuse, under, not_positive, bad_result, level_too_high}
 use Rattle.lf_env.specs.Calls.{checked, Calls}
 use Rattle.lf_env.specs.Infer.{sort_of}
-use Rattle.lf_env.specs.Admission.{is_at_indices, is_positive, is_low, Read, admit_end, with_field, admit_fields, admit_constructor, admit_constructors, is_never_zero, are_proofs_or_indices, eliminates_everywhere}
+use Rattle.lf_env.specs.Admission.{is_at_indices, is_positive, is_low, Read, admit_end, admit_fields, admit_constructor, admit_constructors, is_never_zero, are_proofs_or_indices, eliminates_everywhere}
 use Rattle.lf_inductive_laws.specs.Telescopes.{InSorts}
 use Rattle.lf_checker_laws.specs.Soundness.{Fits, ContextFits, Post, Sound}
-use Rattle.lf_checker_laws.proofs.Tests.{term_is, no_false}
+use Rattle.lf_checker_laws.proofs.Tests.{term_is}
 use Rattle.lf_checker_laws.proofs.Runs.{post_then, post_map, post_named, post_choose, post_opening_then}
 use Rattle.lf_checker_laws.proofs.Fitting.{opened_fits, context_with}
 use Rattle.lf_checker_laws.proofs.Reduces.{Fit}
