@@ -1,15 +1,14 @@
 -- What a constant of a derived environment says of an inductive declaration is what the declaration says.
-use Rattle.std.proofs.Common.{◌≡◌, ℕ, zero, suc, ◌+◌, ◌-◌, ◌⊎◌, inl, inr, Bool, List, [], ◌∷◌, ◌++◌, length, refl, sym, ap, subst, ◌∙◌, arith, Some, slice_get, Contains}
+use Rattle.std.proofs.Common.{◌≡◌, ℕ, suc, ◌+◌, ◌-◌, ◌⊎◌, inl, inr, Bool, List, [], ◌∷◌, ◌++◌, refl, sym, ap, subst, ◌∙◌, arith, Some, slice_get, Contains}
 use Rattle.std.proofs.lemmas.List.Elements.{Contains-append_left, Contains-append_right, Contains-append_cases, Contains-push_cases}
 use Rattle.lf_core.specs.Term.{Path, Term}
 use Rattle.lf_core.specs.Environment.{Environment}
 use Rattle.lf_core.specs.Telescope.{pi_count}
 use Rattle.lf_core.specs.Recursor.{recursor_of}
 use Rattle.lf_core.specs.Inductive.{type_of, constructor_of, constructors_from, declared}
-use Rattle.lf_core.specs.Derived.{Stated, Introduced, Derived, empty, with_axiom, with_value, with_inductive}
+use Rattle.lf_core.specs.Derived.{Introduced, Derived, empty, with_axiom, with_value, with_inductive}
 use Rattle.lf_core.specs.declared.constant.ConstInfo.{ConstInfo}
 use Rattle.lf_core.specs.declared.constant.CtorInfo.{CtorInfo}
-use Rattle.lf_core.specs.declared.constant.Detail.{Detail}
 use Rattle.lf_core.specs.declared.constant.Detail.TheVariants.{Plain, Ind, Ctor, Rec}
 use Rattle.lf_core.specs.declared.constant.IndDecl.{IndDecl}
 use Rattle.lf_inductive_laws.specs.Declarations.{Introduction, TypeDeclared, ConstructorDeclared, RecursorDeclared, EndsIn, AsDeclared}
