@@ -1,5 +1,5 @@
 -- The constants of a derived environment are closed.
-use Rattle.std.proofs.Common.{◌≡◌, ℕ, zero, suc, List, [], ◌∷◌, length, subst, Some, Contains, slice_get}
+use Rattle.std.proofs.Common.{◌≡◌, ℕ, zero, suc, List, [], ◌∷◌, length, subst, Some, slice_get}
 use Rattle.lf_core.specs.Term.{Term}
 use Rattle.lf_core.specs.Scope.{Scoped}
 use Rattle.lf_core.specs.Environment.{Environment}
@@ -8,7 +8,7 @@ use Rattle.lf_core.specs.declared.constant.ConstInfo.{ConstInfo}
 use Rattle.lf_core.specs.declared.constant.Detail.{Detail}
 use Rattle.lf_core.specs.declared.constant.Detail.TheVariants.{Plain, Ind, Ctor, Rec}
 use Rattle.lf_judgment_laws.specs.InScope.{RulesClosed, ConstantClosed, EnvironmentClosed}
-use Rattle.lf_inductive_laws.specs.Recursors.{Right, AllRight}
+use Rattle.lf_inductive_laws.specs.Recursors.{AllRight}
 use Rattle.lf_inductive_laws.specs.Closed.{RulesRight, ConstantRight}
 use Rattle.lf_inductive_laws.proofs.Right.{some_is, no_value, derived_is_right}
 pub use Rattle.lf_inductive_laws.proofs.Contained.{none_contained, last_contained}

@@ -1,15 +1,14 @@
 -- What a constant of a derived environment says of an inductive declaration is what the declaration says.
-use Rattle.std.proofs.Common.{◌≡◌, ℕ, zero, suc, ◌+◌, ◌-◌, ◌⊎◌, inl, inr, Bool, List, [], ◌∷◌, ◌++◌, length, refl, sym, ap, subst, ◌∙◌, arith, Some, slice_get, Contains}
+use Rattle.std.proofs.Common.{◌≡◌, ℕ, suc, ◌+◌, ◌-◌, ◌⊎◌, inl, inr, Bool, List, [], ◌∷◌, ◌++◌, refl, sym, ap, subst, ◌∙◌, arith, Some, slice_get, Contains}
 use Rattle.std.proofs.lemmas.List.Elements.{Contains-append_left, Contains-append_right, Contains-append_cases, Contains-push_cases}
 use Rattle.lf_core.specs.Term.{Path, Term}
 use Rattle.lf_core.specs.Environment.{Environment}
 use Rattle.lf_core.specs.Telescope.{pi_count}
 use Rattle.lf_core.specs.Recursor.{recursor_of}
 use Rattle.lf_core.specs.Inductive.{type_of, constructor_of, constructors_from, declared}
-use Rattle.lf_core.specs.Derived.{Stated, Introduced, Derived, empty, with_axiom, with_value, with_inductive}
+use Rattle.lf_core.specs.Derived.{Introduced, Derived, empty, with_axiom, with_value, with_inductive}
 use Rattle.lf_core.specs.declared.constant.ConstInfo.{ConstInfo}
 use Rattle.lf_core.specs.declared.constant.CtorInfo.{CtorInfo}
-use Rattle.lf_core.specs.declared.constant.Detail.{Detail}
 use Rattle.lf_core.specs.declared.constant.Detail.TheVariants.{Plain, Ind, Ctor, Rec}
 use Rattle.lf_core.specs.declared.constant.IndDecl.{IndDecl}
 use Rattle.lf_inductive_laws.specs.Declarations.{Introduction, TypeDeclared, ConstructorDeclared, RecursorDeclared, EndsIn, AsDeclared}
@@ -114,30 +113,30 @@ recursor_by E c ind params minors indices rules (a_recursor t) q = t
 
 -- ---- A constructor and its type were declared together.
 
-record CtorParts (a b : Path) (i j p q m n : ℕ) : Type 0 where
+record CtorParts (a b : Path) (p q m n : ℕ) : Type 0 where
   type : a ≡ b
   own : p ≡ q
   fields : m ≡ n
 
-ctor_parts : {a b : Path} {i j p q m n : ℕ} → Ctor a i p m ≡ Ctor b j q n → CtorParts a b i j p q m n
+ctor_parts : {a b : Path} {i j p q m n : ℕ} → Ctor a i p m ≡ Ctor b j q n → CtorParts a b p q m n
 ctor_parts e = record { type = cc; own = cc; fields = cc }
 
 ind_parts : {p q m n : ℕ} {xs ys : List Path} {l r : Bool} → Ind p m xs l ≡ Ind q n ys r → (p ≡ q) × (m ≡ n)
 ind_parts e = (cc, cc)
 
-ends_of : (E : Environment) → Distinct E → (t c : ConstInfo) (params indices index own fields : ℕ) (names : List Path) (large : Bool) → ConstructorDeclared E c → Contains E t → t.detail ≡ Ind params indices names large → c.detail ≡ Ctor t.name index own fields → EndsIn t.name (own + fields) (params + indices) c.ty
-ends_of E dist t c params indices index own fields names large k w q r =
+ends_same : (S T : Path) (m n p q : ℕ) (A : Term) → S ≡ T → m ≡ n → p ≡ q → EndsIn S m p A → EndsIn T n q A
+ends_same S T m n p q A e f g h = subst (λ r. EndsIn T n r A) g (subst (λ r. EndsIn T r p A) f (subst (λ r. EndsIn r m p A) e h))
+
+ends_of : (E : Environment) → Distinct E → (t c : ConstInfo) (params indices index own fields : ℕ) (names : List Path) (large : Bool) → Contains E t → ConstructorDeclared E c
+    → t.detail ≡ Ind params indices names large → c.detail ≡ Ctor t.name index own fields → EndsIn t.name (own + fields) (params + indices) c.ty
+ends_of E one t c params indices index own fields names large w k q r =
     let d : IndDecl = k.at.declaration in
     let a = ctor_parts (ap (λ y. y.detail) (sym k.is) ∙ r) in
-    let s : type_of d k.at.large ≡ t = dist (type_of d k.at.large) t (k.at.within (type_of d k.at.large) (first_contained (type_of d k.at.large) (constructors_from d 0 d.ctors ++ recursor_of d k.at.large ∷ []))) w a.type in
-    let b = ind_parts (ap (λ y. y.detail) s ∙ q) in
-    let h : EndsIn d.name (d.params + (pi_count k.constructor.ty - d.params)) (d.params + (pi_count d.ty - d.params)) k.constructor.ty = admitted_ends k.at.before d k.at.large k.at.introduced.admitted k.index k.constructor k.listed in
-    let n : d.params + (pi_count k.constructor.ty - d.params) ≡ own + fields = omega (arith, a.own, a.fields) in
-    let m : d.params + (pi_count d.ty - d.params) ≡ params + indices = omega (arith, b.0, b.1) in
-    let h1 : EndsIn t.name (d.params + (pi_count k.constructor.ty - d.params)) (d.params + (pi_count d.ty - d.params)) k.constructor.ty = subst (λ T. EndsIn T (d.params + (pi_count k.constructor.ty - d.params)) (d.params + (pi_count d.ty - d.params)) k.constructor.ty) a.type h in
-    let h2 : EndsIn t.name (own + fields) (d.params + (pi_count d.ty - d.params)) k.constructor.ty = subst (λ n. EndsIn t.name n (d.params + (pi_count d.ty - d.params)) k.constructor.ty) n h1 in
-    let h3 : EndsIn t.name (own + fields) (params + indices) k.constructor.ty = subst (λ m. EndsIn t.name (own + fields) m k.constructor.ty) m h2 in
-    subst (λ y. EndsIn t.name (own + fields) (params + indices) y) (sym (ap (λ y. y.ty) k.is)) h3
+    let inside : Contains E (type_of d k.at.large) = k.at.within (type_of d k.at.large) (first_contained (type_of d k.at.large) (constructors_from d 0 d.ctors ++ recursor_of d k.at.large ∷ [])) in
+    let b = ind_parts (ap (λ y. y.detail) (one (type_of d k.at.large) t inside w a.type) ∙ q) in
+    subst (EndsIn t.name (own + fields) (params + indices)) (sym (ap (λ y. y.ty) k.is))
+    (ends_same d.name t.name (d.params + (pi_count k.constructor.ty - d.params)) (own + fields) (d.params + (pi_count d.ty - d.params)) (params + indices) k.constructor.ty a.type (omega (arith, a.own, a.fields)) (omega (arith, b.0, b.1))
+    (admitted_ends k.at.before d k.at.large k.at.introduced.admitted k.index k.constructor k.listed))
 
 pub as_declared : (E : Environment) → Derived E → AsDeclared E
 as_declared E h = record {
@@ -146,5 +145,5 @@ as_declared E h = record {
   recursors = λ c ind params minors indices rules w e. recursor_by E c ind params minors indices rules (origin_of E h c w) e;
   distinct = derived_is_distinct E h;
   ends = λ t c params indices index own fields names large v w q r.
-      ends_of E (derived_is_distinct E h) t c params indices index own fields names large (constructor_by E c t.name index own fields (origin_of E h c w) r) v q r;
+      ends_of E (derived_is_distinct E h) t c params indices index own fields names large v (constructor_by E c t.name index own fields (origin_of E h c w) r) q r;
 }

@@ -1,9 +1,9 @@
 -- A constructor's type is pis over parameters and fields, and ends in its type at all parameters and indices.
 use Rattle.std.proofs.Common.{◌≡◌, ℕ, zero, suc, ◌+◌, ◌-◌, ◌≤◌, nat_eq, if◌then◌else◌, Bool, List, [], ◌∷◌, ◌++◌, append-nil, length, length-append, refl, sym, ap, subst, ◌∙◌, arith, zero-le, Some, slice_get}
-use Rattle.lf_core.specs.Term.{Path, Universe, Term, bound, free, meta, sort, const, app, lam, pi, letin, lit}
+use Rattle.lf_core.specs.Term.{Path, Universe, Term, bound, free, const, app, lam, pi, letin}
 use Rattle.lf_core.specs.Substitution.{raise, instantiate_at, instantiate}
 use Rattle.lf_core.specs.Spine.{apply, head_of, arguments_before, arguments_of}
-use Rattle.lf_core.specs.Environment.{Environment, Context, with, opened}
+use Rattle.lf_core.specs.Environment.{Environment, Context, opened}
 use Rattle.lf_core.specs.Telescope.{Telescope, variables, Opened, open_pis, pi_count}
 use Rattle.lf_core.specs.Recursor.{Family, self}
 use Rattle.lf_core.specs.Inductive.{AtIndices, Fields, end, field, Constructs, fields, parameter, ConstructorRight, ConstructorsRight, own_family, with_type, Admitted}

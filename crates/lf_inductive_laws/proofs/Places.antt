@@ -1,5 +1,5 @@
 -- Where a term lies: its variables, its constants and the parameters of its levels at once, and what substitution does to that.
-use Rattle.std.proofs.Common.{ℕ, zero, suc, ◌+◌, ◌-◌, ◌≤◌, ◌<◌, nat_eq, if◌then◌else◌, List, [], ◌∷◌, length, arith, unwrap_or, slice_get, map}
+use Rattle.std.proofs.Common.{ℕ, zero, suc, ◌-◌, ◌≤◌, ◌<◌, nat_eq, if◌then◌else◌, List, [], ◌∷◌, length, arith, unwrap_or, slice_get, map}
 use Rattle.lf_core.specs.Term.{Universe, level_zero, level_succ, level_max, level_imax, level_param, level_meta, Term, bound, free, meta, sort, const, app, lam, pi, letin, lit}
 use Rattle.lf_core.specs.Substitution.{raise, instantiate_at, abstract_at, level_substitute, level_instantiate}
 use Rattle.lf_core.specs.Scope.{Scoped}

@@ -1,10 +1,10 @@
 -- Where the recursor of an opened declaration lies, its rules too: where the declaration lies itself.
 use Rattle.std.proofs.Common.{◌≡◌, ℕ, suc, ◌+◌, ◌≤◌, ◌<◌, List, [], ◌∷◌, ◌++◌, length, length-append, refl, sym, subst, arith, zero-le}
 use Rattle.std.proofs.lemmas.Bool.{cond_both}
-use Rattle.lf_core.specs.Term.{Universe, Term, bound, free, meta, sort, const, app, lam, pi, letin, lit}
+use Rattle.lf_core.specs.Term.{Universe, Term, free, sort, const, pi}
 use Rattle.lf_core.specs.Spine.{apply, arguments_of}
 use Rattle.lf_core.specs.Environment.{Declared, ParametersBelow, AllParametersBelow}
-use Rattle.lf_core.specs.Telescope.{Local, Telescope, variables, pis_over, lambdas_over, pi_count, open_all, implicit, explicit}
+use Rattle.lf_core.specs.Telescope.{Telescope, variables, pi_count, open_all, implicit, explicit}
 use Rattle.lf_core.specs.Recursor.{Case, Family, self, indices_of, is_recursive, motive, target, motive_local, motive_at, innermost, hypothesis, hypotheses, minor_type, minors, shared, recursor_type, Called, recursive_call, recursive_calls, rule, rules}
 use Rattle.lf_core.specs.declared.binder.BinderKind.TheVariants.{Explicit, Implicit}
 use Rattle.lf_inductive_laws.proofs.Places.{Place, Lies, lies_up}

@@ -1,9 +1,9 @@
 -- Where terms lie that are opened, closed and applied, and the telescopes between.
 use Rattle.std.proofs.Common.{◌≡◌, ℕ, zero, suc, ◌+◌, ◌≤◌, List, [], ◌∷◌, ◌++◌, length, drop, refl, subst, arith, zero-le}
-use Rattle.lf_core.specs.Term.{Term, bound, free, meta, sort, const, app, lam, pi, letin, lit}
+use Rattle.lf_core.specs.Term.{Term, free, app, pi}
 use Rattle.lf_core.specs.Substitution.{instantiate}
 use Rattle.lf_core.specs.Spine.{apply, arguments_before, arguments_of}
-use Rattle.lf_core.specs.Telescope.{Telescope, variables, pis_over, lambdas_over, Opened, behind, open_pis, pi_count, of_kind}
+use Rattle.lf_core.specs.Telescope.{Telescope, variables, pis_over, lambdas_over, Opened, behind, open_pis, of_kind}
 use Rattle.lf_core.specs.Recursor.{innermost}
 use Rattle.lf_core.specs.declared.binder.BinderKind.{BinderKind}
 use Rattle.lf_inductive_laws.proofs.Places.{Place, Lies, lies_up, lies_instantiate_at, lies_abstract_at}
@@ -101,4 +101,3 @@ opens p k (suc n) (pi x A B) h =
     record { locals = (h.0, r.locals); rest = subst (λ m. Lies p 0 m o.rest) e r.rest; most = omega arith }
 opens p k zero t h = opens_none p k zero t h
 opens p k (suc n) t h = opens_none p k (suc n) t h
-

@@ -1,13 +1,12 @@
 -- The recursor of an introduced declaration is closed, and names only the declaration and what it names, at its own levels.
-use Rattle.std.proofs.Common.{◌≡◌, ℕ, zero, suc, ◌+◌, ◌≤◌, ◌⊎◌, inl, inr, Bool, true, false, if◌then◌else◌, List, [], ◌∷◌, ◌++◌, length, refl, sym, ap, subst, ◌∙◌, arith, zero-le, Contains}
+use Rattle.std.proofs.Common.{◌≡◌, ℕ, zero, suc, ◌+◌, ◌≤◌, ◌⊎◌, inl, inr, Bool, true, false, if◌then◌else◌, List, [], ◌∷◌, ◌++◌, length, refl, ap, subst, arith, zero-le, Contains}
 use Rattle.std.proofs.lemmas.List.Elements.{Contains-append_left, Contains-append_right, Contains-push, Contains-push_cases}
-use Rattle.lf_core.specs.Term.{Path, Universe, level_param, Term, pi}
+use Rattle.lf_core.specs.Term.{Universe, Term, pi}
 use Rattle.lf_core.specs.Substitution.{level_instantiate}
-use Rattle.lf_core.specs.Scope.{Scoped}
-use Rattle.lf_core.specs.Environment.{Environment, Declared, NamesDeclared, ParametersBelow, AllParametersBelow, LevelsBelow}
-use Rattle.lf_core.specs.Telescope.{Opened, open_pis, pi_count}
-use Rattle.lf_core.specs.Recursor.{Case, cases_of, Family, family, parameters_from, ctors_at, declaration_at, recursor_levels, motive_level, recursor_family, recursor_called, recursor_rules, recursor_of}
-use Rattle.lf_core.specs.Inductive.{Admitted, ConstructorsRight, type_of, constructor_of, constructors_from, declared, with_type, own_family}
+use Rattle.lf_core.specs.Environment.{Environment, Declared, ParametersBelow, AllParametersBelow}
+use Rattle.lf_core.specs.Telescope.{open_pis, pi_count}
+use Rattle.lf_core.specs.Recursor.{cases_of, Family, parameters_from, ctors_at, recursor_levels, motive_level, recursor_family, recursor_called, recursor_rules, recursor_of}
+use Rattle.lf_core.specs.Inductive.{ConstructorsRight, type_of, constructor_of, constructors_from, declared, with_type, own_family}
 use Rattle.lf_core.specs.Derived.{ConstructorsNamed, Introduced}
 use Rattle.lf_core.specs.declared.constant.ConstInfo.{ConstInfo}
 use Rattle.lf_core.specs.declared.constant.CtorInfo.{CtorInfo}
@@ -15,7 +14,7 @@ use Rattle.lf_core.specs.declared.constant.IndDecl.{IndDecl}
 use Rattle.lf_judgment_laws.specs.Growth.{Tells, Grows}
 use Rattle.lf_judgment_laws.proofs.Scopes.{typed_scoped}
 use Rattle.lf_judgment_laws.proofs.Grows.{self_tells, relations_grow}
-use Rattle.lf_inductive_laws.specs.Recursors.{Right, AllRight, RecursorRight}
+use Rattle.lf_inductive_laws.specs.Recursors.{AllRight, RecursorRight}
 use Rattle.lf_inductive_laws.proofs.Contained.{first_contained, later_contained}
 use Rattle.lf_inductive_laws.proofs.Telescopes.{length-opened}
 use Rattle.lf_inductive_laws.proofs.Places.{Place, Lies, lies_from, lies_up, lies_at_levels, right_from}
@@ -90,10 +89,13 @@ constructors_lie : (E : Environment) (d : IndDecl) (large : Bool) (r : Universe)
     → ConstructorsRight (with_type E d) (own_family d) r cs → ConstructorsNamed (with_type E d) d cs → ConstructorsLie (place_of E d large (length d.levels)) cs
 constructors_lie E d large r i [] w h n = tt
 constructors_lie E d large r i (c ∷ cs) w h n =
-    let g = relations_grow (with_type E d) (E ++ declared d large) (with_type_grows E d large) in
-    (((constructor_of d i c, w (constructor_of d i c) (first_contained (constructor_of d i c) (constructors_from d (suc i) cs)), refl),
-      lies_from (place_of E d large (length d.levels)) 0 0 c.ty (typed_scoped (with_type E d) h.0.typed) (g.named c.ty n.0.0) n.0.1),
-     constructors_lie E d large r (suc i) cs (λ x v. w x (later_contained (constructor_of d i c) x (constructors_from d (suc i) cs) v)) h.1 n.1)
+    let g = relations_grow (with_type E d) (E ++ declared d large) (with_type_grows E d large) in (
+      (
+        (constructor_of d i c, w (constructor_of d i c) (first_contained (constructor_of d i c) (constructors_from d (suc i) cs)), refl),
+        lies_from (place_of E d large (length d.levels)) 0 0 c.ty (typed_scoped (with_type E d) h.0.typed) (g.named c.ty n.0.0) n.0.1,
+      ),
+      constructors_lie E d large r (suc i) cs (λ x v. w x (later_contained (constructor_of d i c) x (constructors_from d (suc i) cs) v)) h.1 n.1,
+    )
 
 cases_lie : (E : Environment) (m n : ℕ) (ls : List Universe) (k l : ℕ) (cs : List CtorInfo) → m ≤ length ls → AllParametersBelow n ls → k ≤ l
     → ConstructorsLie (record { environment = E; levels = m }) cs → CasesLie (record { environment = E; levels = n }) l (cases_of k (ctors_at ls cs))

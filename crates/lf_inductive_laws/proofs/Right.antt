@@ -1,5 +1,5 @@
 -- The constants of a derived environment are right: closed, with names that it declares, at their own levels.
-use Rattle.std.proofs.Common.{◌≡◌, ℕ, zero, suc, ◌⊎◌, inl, inr, Bool, List, [], ◌∷◌, ◌++◌, length, refl, sym, subst, ◌∙◌, Some, None, Contains}
+use Rattle.std.proofs.Common.{◌≡◌, ℕ, suc, ◌⊎◌, inl, inr, Bool, List, [], ◌∷◌, ◌++◌, length, sym, subst, ◌∙◌, Some, None, Contains}
 use Rattle.std.proofs.lemmas.List.Elements.{Contains-append_left, Contains-append_cases, Contains-push_cases}
 use Rattle.lf_core.specs.Term.{Universe, Term, sort}
 use Rattle.lf_core.specs.Environment.{Environment}
@@ -16,7 +16,7 @@ use Rattle.lf_judgment_laws.proofs.Scopes.{typed_scoped}
 use Rattle.lf_judgment_laws.proofs.Grows.{self_tells, relations_grow}
 use Rattle.lf_inductive_laws.specs.Recursors.{Right, AllRight, RecursorRight}
 use Rattle.lf_inductive_laws.specs.Closed.{RulesRight, ConstantRight}
-use Rattle.lf_inductive_laws.proofs.Contained.{none_contained, last_contained, contained_cases}
+use Rattle.lf_inductive_laws.proofs.Contained.{none_contained, contained_cases}
 use Rattle.lf_inductive_laws.proofs.Recursors.{within_declared, with_type_grows, recursors_are_right}
 
 -- ---- What is right stays right over more constants.

@@ -1,11 +1,11 @@
 -- Telescopes: what is opened is closed again, what is closed is opened again, and pis over types are a type.
-use Rattle.std.proofs.Common.{◌≡◌, ℕ, zero, suc, ◌+◌, ◌-◌, ◌≤◌, ◌<◌, nat_eq, if◌then◌else◌, List, [], ◌∷◌, ◌++◌, append_assoc, append-nil, length, length-append, refl, sym, ap, ap₂, subst, ◌∙◌, arith, zero-le}
+use Rattle.std.proofs.Common.{◌≡◌, ℕ, zero, suc, ◌+◌, ◌-◌, ◌≤◌, nat_eq, if◌then◌else◌, [], ◌∷◌, ◌++◌, append_assoc, append-nil, length, refl, sym, ap, ap₂, subst, ◌∙◌, arith, zero-le}
 use Rattle.lf_core.specs.Term.{Universe, level_imax, Term, bound, free, meta, sort, const, app, lam, pi, letin, lit}
 use Rattle.lf_core.specs.Substitution.{raise, instantiate_at, instantiate, abstract_at, abstract}
 use Rattle.lf_core.specs.Scope.{Scoped}
-use Rattle.lf_core.specs.Environment.{Environment, Context, with, opened}
+use Rattle.lf_core.specs.Environment.{Environment, Context, with}
 use Rattle.lf_core.specs.Judgment.{HasType, pi_type}
-use Rattle.lf_core.specs.Telescope.{Local, Telescope, types, pis_over, Opened, behind, open_pis, pi_count}
+use Rattle.lf_core.specs.Telescope.{Telescope, types, pis_over, Opened, behind, open_pis, pi_count}
 use Rattle.lf_judgment_laws.specs.InScope.{AllScoped, ContextScoped}
 use Rattle.lf_judgment_laws.proofs.Variables.{by_eq, by_lt, scoped_up, scoped_instantiate, scoped_abstract_at, instantiate_at-abstract_at, length-with, scoped_closed, opened-abstract}
 use Rattle.lf_judgment_laws.proofs.Scopes.{typed_scoped}

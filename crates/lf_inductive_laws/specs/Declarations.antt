@@ -4,7 +4,7 @@ use Rattle.lf_core.specs.Term.{Path, Universe, Term, const, pi}
 use Rattle.lf_core.specs.Spine.{apply}
 use Rattle.lf_core.specs.Environment.{Environment}
 use Rattle.lf_core.specs.Recursor.{recursor_of}
-use Rattle.lf_core.specs.Inductive.{type_of, constructor_of, declared, Admitted}
+use Rattle.lf_core.specs.Inductive.{type_of, constructor_of, declared}
 use Rattle.lf_core.specs.Derived.{Derived, Introduced}
 use Rattle.lf_core.specs.declared.constant.ConstInfo.{ConstInfo}
 use Rattle.lf_core.specs.declared.constant.CtorInfo.{CtorInfo}

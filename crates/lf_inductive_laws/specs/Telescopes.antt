@@ -4,7 +4,7 @@ use Rattle.lf_core.specs.Term.{Universe, Term, sort}
 use Rattle.lf_core.specs.Scope.{Scoped}
 use Rattle.lf_core.specs.Environment.{Environment, Context, with}
 use Rattle.lf_core.specs.Judgment.{HasType}
-use Rattle.lf_core.specs.Telescope.{Local, Telescope, types, pis_over, Opened, open_pis}
+use Rattle.lf_core.specs.Telescope.{Telescope, types, pis_over, Opened, open_pis}
 use Rattle.lf_judgment_laws.specs.InScope.{ContextScoped}
 
 -- The first local is the variable k, and each type has only the variables before it.
