@@ -1,6 +1,6 @@
 -- Environments and contexts, and what of them a term speaks of (Carneiro 2019, "The Type Theory of Lean", chapter 2).
 use Rattle.std.specs.Prelude.{◌≡◌, ◌<◌, ℕ, List, [], ◌∷◌, ◌++◌, length, Contains, codes}
-use Rattle.lf_core.specs.Term.{Path, Universe, level_succ, level_max, level_imax, level_param, Term, free, sort, const, app, lam, pi, letin, lit}
+use Rattle.lf_core.specs.Term.{Path, Universe, level_succ, level_max, level_imax, level_param, level_meta, level_zero, Term, free, sort, const, app, lam, pi, letin, lit}
 use Rattle.lf_core.specs.Substitution.{instantiate}
 use Rattle.lf_core.specs.declared.constant.ConstInfo.{ConstInfo}
 
@@ -50,13 +50,14 @@ NamesDeclared E (pi x A B) = NamesDeclared E A × NamesDeclared E B
 NamesDeclared E (letin x A v b) = NamesDeclared E A × NamesDeclared E v × NamesDeclared E b
 NamesDeclared E _ = Unit {0}
 
--- Each level parameter is below n: of a level, of levels, of a term.
+-- Each level parameter is below n, and there is no level metavariable: in a level, in levels, in a term.
 abbrev pub ParametersBelow : ℕ → Universe → Type 0
 ParametersBelow n (level_param k) = k < n
 ParametersBelow n (level_succ l) = ParametersBelow n l
 ParametersBelow n (level_max l m) = ParametersBelow n l × ParametersBelow n m
 ParametersBelow n (level_imax l m) = ParametersBelow n l × ParametersBelow n m
-ParametersBelow n _ = Unit {0}
+ParametersBelow n (level_meta k) = ⊥
+ParametersBelow n level_zero = Unit {0}
 
 abbrev pub AllParametersBelow : ℕ → List Universe → Type 0
 AllParametersBelow n [] = Unit {0}

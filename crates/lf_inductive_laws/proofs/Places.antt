@@ -130,7 +130,7 @@ below_substitute m n ls (level_succ l) e b h = below_substitute m n ls l e b h
 below_substitute m n ls (level_max l r) e b h = (below_substitute m n ls l e b h.0, below_substitute m n ls r e b h.1)
 below_substitute m n ls (level_imax l r) e b h = (below_substitute m n ls l e b h.0, below_substitute m n ls r e b h.1)
 below_substitute m n ls (level_param k) e b h = below_get n ls k (level_param k) (omega arith) b
-below_substitute m n ls (level_meta k) e b h = tt
+below_substitute m n ls (level_meta k) e b h = h
 
 all_substitute : (m n : ℕ) (ls ks : List Universe) → m ≤ length ls → AllParametersBelow n ls → AllParametersBelow m ks → AllParametersBelow n (map (level_substitute ls) ks)
 all_substitute m n ls [] e b h = tt
