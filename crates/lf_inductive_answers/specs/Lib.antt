@@ -1,0 +1,4 @@
+pub mod Words
+pub mod Printed
+pub mod Declarations
+pub mod Recursors
