@@ -6,6 +6,32 @@ use Rattle.lf_inductive_answers.specs.Recursors.{Recursors}
 pub recursors : Recursors
 unfolding encode_utf8 digits
 recursors = record {
+  nat_constant = refl;
   nat_type = refl;
   list_type = refl;
+  list_name = refl;
+  list_levels = refl;
+  list_counts = refl;
+  cons_rule = refl;
+  eq_type = refl;
+  eq_levels = refl;
+  eq_counts = refl;
+  refl_rule = refl;
+  false_type = refl;
+  false_counts = refl;
+  and_type = refl;
+  and_counts = refl;
+  or_type = refl;
+  or_levels = refl;
+  d_type = refl;
+  acc_type = refl;
+  acc_counts = refl;
+  acc_rule = refl;
+  w_type = refl;
+  w_rule = refl;
+  w_rule_text = refl;
+  vec_type = refl;
+  level_free = refl;
+  level_taken = refl;
+  levels_taken = refl;
 }

@@ -1,4 +1,4 @@
--- Terms as text, by the rules of docs/language.md under "Printing", as far as these answers need them: of the operators `=` and `∧` alone.
+-- Terms as text, by the rules of docs/language.md under "Printing", as far as these answers need them: of the operators `=`, `∧` and `∨` alone.
 use Rattle.std.specs.Prelude.{ℕ, zero, suc, ◌==◌, ◌||◌, ◌&&◌, not, nat_lt, Bool, true, false, if◌then◌else◌, List, [], ◌∷◌, ◌++◌, slice_get, Option, Some, None, flat_map, decimal}
 use Rattle.lf_core.specs.Term.{Path, Universe, level_zero, level_succ, level_max, level_imax, level_param, level_meta, Term, bound, free, meta, sort, const, app, lam, pi, letin, lit}
 use Rattle.lf_core.specs.Same.{same_path}
@@ -79,7 +79,9 @@ printed ls p xs (app (app (app (const c ms) A) a) b) =
 printed ls p xs (app (app (const c ms) a) b) =
     if same_path c (word "And")
     then in_parentheses (nat_lt 35 p) (printed ls 36 xs a ++ (text " ∧ " ++ printed ls 35 xs b))
-    else in_parentheses (nat_lt 1023 p) (spaced (printed ls 1023 xs (app (const c ms) a)) (printed ls 1024 xs b))
+    else (if same_path c (word "Or")
+    then in_parentheses (nat_lt 30 p) (printed ls 31 xs a ++ (text " ∨ " ++ printed ls 30 xs b))
+    else in_parentheses (nat_lt 1023 p) (spaced (printed ls 1023 xs (app (const c ms) a)) (printed ls 1024 xs b)))
 printed ls p xs (app f a) = in_parentheses (nat_lt 1023 p) (spaced (printed ls 1023 xs f) (printed ls 1024 xs a))
 printed ls p xs (lam x A b) = in_parentheses (nat_lt 25 p) (text "fun " ++ (binder_text x.kind x.name (printed ls 0 xs A) ++ (text " => " ++ printed ls 0 (x.name ∷ xs) b)))
 printed ls p xs (pi x A B) =

@@ -4,6 +4,8 @@ use Rattle.std.specs.Str.{encode_utf8_all}
 use Prim.Native.String.{String}
 use Rattle.lf_core.specs.Term.{Path, Universe, level_zero, level_succ, level_param, Term, sort, const, app, pi}
 use Rattle.lf_core.specs.declared.binder.Binder.{Binder}
+use Rattle.lf_core.specs.declared.constant.CtorInfo.{CtorInfo}
+use Rattle.lf_core.specs.declared.constant.IndDecl.{IndDecl}
 use Rattle.lf_core.specs.declared.binder.BinderKind.TheVariants.{Explicit, Implicit}
 
 abbrev pub text : String → List ℕ
@@ -28,6 +30,7 @@ infixr 25 ◌⟶◌
 abbrev pub ◌⟶◌ : Term → Term → Term
 A ⟶ B = pi (explicit "a") A B
 
+-- f a b and f a b c
 abbrev pub two : Term → Term → Term → Term
 two f a b = app (app f a) b
 
@@ -46,3 +49,20 @@ prop = sort level_zero
 
 abbrev pub type : Term
 type = sort one
+
+abbrev pub at : String → Term
+at a = const (word a) []
+
+-- A declaration without levels, and one constructor.
+abbrev pub inductive_type : String → ℕ → Term → List CtorInfo → IndDecl
+inductive_type name params A cs = record { name = word name; levels = []; params = params; ty = A; ctors = cs }
+
+abbrev pub constructor : String → String → Term → CtorInfo
+constructor name last A = record { name = dotted name last; ty = A }
+
+-- The same with one level parameter, `u`.
+abbrev pub inductive_type_u : String → ℕ → Term → List CtorInfo → IndDecl
+inductive_type_u name params A cs = record { name = word name; levels = word "u" ∷ []; params = params; ty = A; ctors = cs }
+
+abbrev pub at_u : String → Term
+at_u a = const (word a) (u ∷ [])
