@@ -1,1 +1,4 @@
 pub mod Recursors
+pub mod Admissions
+pub mod Refusals
+pub mod Needs

@@ -86,3 +86,9 @@ abbrev pub vec_declaration : IndDecl
 vec_declaration = inductive_type "Vec" 1 (pi (explicit "α") type (nat ⟶ type))
     (constructor "Vec" "nil" (pi (implicit "α") type (two (at "Vec") (bound 0) nat_zero))
     ∷ constructor "Vec" "cons" (pi (implicit "α") type (pi (implicit "n") nat (pi (explicit "head") (bound 1) (pi (explicit "tail") (two (at "Vec") (bound 2) (bound 1)) (two (at "Vec") (bound 3) (app nat_succ (bound 2))))))) ∷ [])
+
+-- inductive Exists {α : Sort u} (p : α → Prop) : Prop where | intro (w : α) (h : p w) : Exists p
+abbrev pub exists_declaration : IndDecl
+exists_declaration = inductive_type_u "Exists" 2 (pi (implicit "α") (sort u) (pi (explicit "p") (bound 0 ⟶ prop) prop))
+    (constructor "Exists" "intro" (pi (implicit "α") (sort u) (pi (implicit "p") (bound 0 ⟶ prop)
+    (pi (explicit "w") (bound 1) (pi (explicit "h") (app (bound 1) (bound 0)) (two (at_u "Exists") (bound 3) (bound 2)))))) ∷ [])

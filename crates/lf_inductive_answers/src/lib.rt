@@ -1,9 +1,27 @@
 //! Worked answers on inductive declarations: recursors, admission, and reduction by the recursors' rules.
 #![tactic(auto)]
 
+ghost use Rattle.lf_inductive_answers.specs.Admissions.{Admissions};
+ghost use Rattle.lf_inductive_answers.specs.Needs.{Needs};
 ghost use Rattle.lf_inductive_answers.specs.Recursors.{Recursors};
+ghost use Rattle.lf_inductive_answers.specs.Refusals.{Refusals};
 
 /// Recursors that are known from elsewhere: their types as text, and their rules.
 pub fn recursors_of_known_types()
     ensures { Recursors }
+{}
+
+/// What is added for declarations that are admitted, and what that costs; into which sorts they eliminate.
+pub fn admissions_of_known_types()
+    ensures { Admissions }
+{}
+
+/// Why declarations are refused, with the names of the binders round the place.
+pub fn refusals_of_wrong_declarations()
+    ensures { Refusals }
+{}
+
+/// What has to be done before a declaration is judged.
+pub fn admission_waits()
+    ensures { Needs }
 {}
