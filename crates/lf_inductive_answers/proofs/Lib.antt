@@ -2,3 +2,4 @@ pub mod Recursors
 pub mod Admissions
 pub mod Refusals
 pub mod Needs
+pub mod Reductions

@@ -8,3 +8,4 @@ pub mod Recursors
 pub mod Admissions
 pub mod Refusals
 pub mod Needs
+pub mod Reductions

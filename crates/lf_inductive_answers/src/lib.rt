@@ -4,6 +4,7 @@
 ghost use Rattle.lf_inductive_answers.specs.Admissions.{Admissions};
 ghost use Rattle.lf_inductive_answers.specs.Needs.{Needs};
 ghost use Rattle.lf_inductive_answers.specs.Recursors.{Recursors};
+ghost use Rattle.lf_inductive_answers.specs.Reductions.{Reductions};
 ghost use Rattle.lf_inductive_answers.specs.Refusals.{Refusals};
 
 /// Recursors that are known from elsewhere: their types as text, and their rules.
@@ -24,4 +25,9 @@ pub fn refusals_of_wrong_declarations()
 /// What has to be done before a declaration is judged.
 pub fn admission_waits()
     ensures { Needs }
+{}
+
+/// Weak head and normal forms by the rules of recursors, and where the constructor without fields takes the place of a proof.
+pub fn reduction_by_the_rules()
+    ensures { Reductions }
 {}
