@@ -1,10 +1,15 @@
 use Rattle.std.proofs.Common.{refl}
 use Rattle.std.specs.Char.{encode_utf8}
 use Rattle.std.specs.Fmt.{digits}
+use Rattle.lf_env.specs.LevelTest.{is_same, is_at_most}
+use Rattle.lf_env.specs.Whnf.{turn_limit, whnf_body}
+use Rattle.lf_env.specs.Infer.{infer_body}
+use Rattle.lf_env.specs.Equal.{equal_body}
+use Rattle.lf_env.specs.Normalize.{normalize_body}
 use Rattle.lf_inductive_answers.specs.Recursors.{Recursors}
 
 pub recursors : Recursors
-unfolding encode_utf8 digits
+unfolding encode_utf8 digits is_same is_at_most turn_limit whnf_body infer_body equal_body normalize_body
 recursors = record {
   nat_constant = refl;
   nat_type = refl;
@@ -30,6 +35,11 @@ recursors = record {
   w_type = refl;
   w_rule = refl;
   w_rule_text = refl;
+  tree_type = refl;
+  node_minor = refl;
+  node_rule = refl;
+  fan_type = refl;
+  fan_rule = refl;
   vec_type = refl;
   level_free = refl;
   level_taken = refl;

@@ -11,8 +11,8 @@ use Rattle.lf_env.specs.View.{View}
 use Rattle.lf_env.specs.Run.{Answer, done, out}
 use Rattle.lf_env.specs.Admission.{add_inductive}
 use Rattle.lf_inductive_answers.specs.Words.{word, dotted, explicit, type}
-use Rattle.lf_inductive_answers.specs.Declarations.{nat, nat_declaration, list_declaration, eq_declaration, false_declaration, true_declaration, and_declaration, or_declaration, d_declaration, acc_declaration, w_declaration, vec_declaration, exists_declaration}
-use Rattle.lf_inductive_answers.specs.Elimination.{holds_number, by_field, by_successor, hidden, unit_in_any_sort, two_in_any_sort, two_in_types}
+use Rattle.lf_inductive_answers.specs.Declarations.{nat, nat_declaration, list_declaration, eq_declaration, false_declaration, true_declaration, and_declaration, or_declaration, d_declaration, acc_declaration, w_declaration, vec_declaration, exists_declaration, tree_declaration, fan_declaration}
+use Rattle.lf_inductive_answers.specs.Elimination.{holds_number, by_field, by_successor, hidden, unit_in_any_sort, two_in_any_sort, two_in_types, of_sort}
 use Rattle.lf_inductive_answers.specs.Recursors.{nat_recursor}
 use Rattle.lf_inductive_answers.specs.Views.{nothing, with_numbers, with_equality}
 
@@ -49,9 +49,14 @@ pub record Admissions : Type 0 where
   -- no call in a call is made for the numbers
   pub nested_enough : given (add_inductive nothing 1 nat_declaration 100000) ≡ Some (declared nat_declaration true)
   pub nested_too_deep : add_inductive nothing 0 nat_declaration 100000 ≡ out
+  -- a recursor of depth 1,024 is given, and a deeper one isn't
+  pub recursor_deep : added nothing (of_sort 1019) ≡ Some (declared (of_sort 1019) false)
+  pub recursor_too_deep : add_inductive nothing 512 (of_sort 1020) 100000 ≡ out
   -- types eliminate into every sort
   pub lists : added nothing list_declaration ≡ Some (declared list_declaration true)
-  pub trees : added nothing w_declaration ≡ Some (declared w_declaration true)
+  pub trees : added with_numbers tree_declaration ≡ Some (declared tree_declaration true)
+  pub families : added nothing w_declaration ≡ Some (declared w_declaration true)
+  pub fans : added with_numbers fan_declaration ≡ Some (declared fan_declaration true)
   pub vectors : added with_numbers vec_declaration ≡ Some (declared vec_declaration true)
   pub dependent_field : added with_equality d_declaration ≡ Some (declared d_declaration true)
   pub never_a_proposition : added nothing two_in_types ≡ Some (declared two_in_types true)

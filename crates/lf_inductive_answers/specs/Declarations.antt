@@ -92,3 +92,11 @@ abbrev pub exists_declaration : IndDecl
 exists_declaration = inductive_type_u "Exists" 2 (pi (implicit "α") (sort u) (pi (explicit "p") (bound 0 ⟶ prop) prop))
     (constructor "Exists" "intro" (pi (implicit "α") (sort u) (pi (implicit "p") (bound 0 ⟶ prop)
     (pi (explicit "w") (bound 1) (pi (explicit "h") (app (bound 1) (bound 0)) (two (at_u "Exists") (bound 3) (bound 2)))))) ∷ [])
+
+-- inductive Tree : Type where | leaf : Tree | node (l : Tree) (n : Nat) (r : Tree) : Tree
+abbrev pub tree_declaration : IndDecl
+tree_declaration = inductive_type "Tree" 0 type (constructor "Tree" "leaf" (at "Tree") ∷ constructor "Tree" "node" (pi (explicit "l") (at "Tree") (pi (explicit "n") nat (pi (explicit "r") (at "Tree") (at "Tree")))) ∷ [])
+
+-- inductive Fan : Type where | fan (f : ∀ {n : Nat}, Fan) : Fan
+abbrev pub fan_declaration : IndDecl
+fan_declaration = inductive_type "Fan" 0 type (constructor "Fan" "fan" (pi (explicit "f") (pi (implicit "n") nat (at "Fan")) (at "Fan")) ∷ [])

@@ -1,6 +1,6 @@
 -- Declarations that tell apart when a type eliminates into every sort.
-use Rattle.std.specs.Prelude.{[], ◌∷◌}
-use Rattle.lf_core.specs.Term.{Term, level_max, bound, sort, app, lam, pi}
+use Rattle.std.specs.Prelude.{ℕ, zero, suc, [], ◌∷◌}
+use Rattle.lf_core.specs.Term.{Universe, level_zero, level_succ, level_max, Term, bound, sort, app, lam, pi}
 use Rattle.lf_core.specs.declared.constant.IndDecl.{IndDecl}
 use Rattle.lf_inductive_answers.specs.Words.{explicit, ◌⟶◌, u, one, prop, at, at_u, inductive_type, inductive_type_u, constructor}
 use Rattle.lf_inductive_answers.specs.Declarations.{nat, nat_zero, nat_succ}
@@ -33,3 +33,11 @@ two_in_any_sort = inductive_type_u "Two" 0 (sort u) (constructor "Two" "left" (a
 
 abbrev pub two_in_types : IndDecl
 two_in_types = inductive_type_u "Two" 0 (sort (level_max one u)) (constructor "Two" "left" (at_u "Two") ∷ constructor "Two" "right" (at_u "Two") ∷ [])
+
+-- P : Prop, mk (A : Sort n) : P; the constructor's type is n + 3 deep, and the recursor's n + 5
+abbrev pub level_of : ℕ → Universe
+level_of zero = level_zero
+level_of (suc n) = level_succ (level_of n)
+
+abbrev pub of_sort : ℕ → IndDecl
+of_sort n = inductive_type "P" 0 prop (constructor "P" "mk" (pi (explicit "A") (sort (level_of n)) (at "P")) ∷ [])

@@ -7,9 +7,9 @@ use Rattle.lf_core.specs.declared.constant.ConstKind.TheVariants.{Recursor}
 use Rattle.lf_core.specs.declared.constant.Detail.{Detail}
 use Rattle.lf_core.specs.declared.constant.Detail.TheVariants.{Rec}
 use Rattle.lf_core.specs.declared.constant.IndDecl.{IndDecl}
-use Rattle.lf_inductive_answers.specs.Words.{text, word, dotted, explicit, implicit, ◌⟶◌, two, u, type}
+use Rattle.lf_inductive_answers.specs.Words.{text, word, dotted, explicit, implicit, ◌⟶◌, two, u, type, at}
 use Rattle.lf_inductive_answers.specs.Printed.{term_text}
-use Rattle.lf_inductive_answers.specs.Declarations.{nat, nat_zero, nat_succ, nat_declaration, list_declaration, eq_declaration, false_declaration, and_declaration, or_declaration, d_declaration, acc_declaration, w_declaration, vec_declaration}
+use Rattle.lf_inductive_answers.specs.Declarations.{nat, nat_zero, nat_succ, nat_declaration, list_declaration, eq_declaration, false_declaration, and_declaration, or_declaration, d_declaration, acc_declaration, w_declaration, vec_declaration, tree_declaration, fan_declaration}
 
 abbrev pub type_text : ConstInfo → List ℕ
 type_text c = term_text c.levels c.ty
@@ -90,6 +90,19 @@ sup_rule =
     (lam (explicit "a") (bound 3) (lam (explicit "f") (app (bound 3) (bound 0) ⟶ w_at (bound 5) (bound 4))
     (app (two (bound 2) (bound 1) (bound 0)) (lam (explicit "a") (app (bound 4) (bound 1)) (app (two (two (const (dotted "W" "rec") (u ∷ [])) (bound 6) (bound 5)) (bound 4) (bound 3)) (app (bound 1) (bound 0))))))))))
 
+-- ---- A minor premise with two hypotheses behind its fields.
+
+-- The domain of the n-th pi.
+abbrev pub domain_of : ℕ → Term → Option Term
+domain_of zero (pi x A B) = Some A
+domain_of (suc n) (pi x A B) = domain_of n B
+domain_of n t = None
+
+abbrev pub node_case : Term
+node_case =
+    pi (explicit "l") (at "Tree") (pi (explicit "n") nat (pi (explicit "r") (at "Tree")
+    (pi (explicit "l_ih") (app (bound 4) (bound 2)) (pi (explicit "r_ih") (app (bound 5) (bound 1)) (app (bound 6) (app (two (const (dotted "Tree" "node") []) (bound 4) (bound 3)) (bound 2)))))))
+
 -- ---- The answers.
 
 pub record Recursors : Type 0 where
@@ -125,6 +138,13 @@ pub record Recursors : Type 0 where
   pub w_type : type_text (recursor_of w_declaration true) ≡ text "∀ {A : Type}, ∀ {B : A → Type}, ∀ {motive : W A B → Sort u}, (∀ (a : A), ∀ (f : B a → W A B), (∀ (a : B a), motive (f a)) → motive (W.sup A B a f)) → ∀ (t : W A B), motive t"
   pub w_rule : rule_of (recursor_of w_declaration true) 0 ≡ Some sup_rule
   pub w_rule_text : rule_text (recursor_of w_declaration true) 0 ≡ text "fun {A : Type} => fun {B : A → Type} => fun {motive : W A B → Sort u} => fun (sup : ∀ (a : A), ∀ (f : B a → W A B), (∀ (a : B a), motive (f a)) → motive (W.sup A B a f)) => fun (a : A) => fun (f : B a → W A B) => sup a f (fun (a : B a) => W.rec A B motive sup (f a))"
+  -- two recursive fields: their hypotheses come behind all fields, in order
+  pub tree_type : type_text (recursor_of tree_declaration true) ≡ text "∀ {motive : Tree → Sort u}, motive Tree.leaf → (∀ (l : Tree), ∀ (n : Nat), ∀ (r : Tree), motive l → motive r → motive (Tree.node l n r)) → ∀ (t : Tree), motive t"
+  pub node_minor : domain_of 2 (recursor_of tree_declaration true).ty ≡ Some node_case
+  pub node_rule : rule_text (recursor_of tree_declaration true) 1 ≡ text "fun {motive : Tree → Sort u} => fun (leaf : motive Tree.leaf) => fun (node : ∀ (l : Tree), ∀ (n : Nat), ∀ (r : Tree), motive l → motive r → motive (Tree.node l n r)) => fun (l : Tree) => fun (n : Nat) => fun (r : Tree) => node l n r (Tree.rec motive leaf node l) (Tree.rec motive leaf node r)"
+  -- the binders of a field keep their kinds, in the hypothesis and in the rule
+  pub fan_type : type_text (recursor_of fan_declaration true) ≡ text "∀ {motive : Fan → Sort u}, (∀ (f : ∀ {n : Nat}, Fan), (∀ {n : Nat}, motive (f n)) → motive (Fan.fan f)) → ∀ (t : Fan), motive t"
+  pub fan_rule : rule_text (recursor_of fan_declaration true) 0 ≡ text "fun {motive : Fan → Sort u} => fun (fan : ∀ (f : ∀ {n : Nat}, Fan), (∀ {n : Nat}, motive (f n)) → motive (Fan.fan f)) => fun (f : ∀ {n : Nat}, Fan) => fan f (fun {n : Nat} => Fan.rec motive fan (f n))"
   -- a field in braces keeps them, and so does an index
   pub vec_type : type_text (recursor_of vec_declaration true) ≡ text "∀ {α : Type}, ∀ {motive : ∀ (a : Nat), Vec α a → Sort u}, motive Nat.zero (Vec.nil α) → (∀ {n : Nat}, ∀ (head : α), ∀ (tail : Vec α n), motive n tail → motive (Nat.succ n) (Vec.cons α n head tail)) → ∀ {a : Nat}, ∀ (t : Vec α a), motive a t"
   -- the motive's level is the first name that isn't taken
