@@ -3,3 +3,5 @@ pub mod Admissions
 pub mod Refusals
 pub mod Needs
 pub mod Reductions
+pub mod Typed
+pub mod LeftOut

@@ -1,5 +1,5 @@
 -- Declarations that are admitted: what is added, and what it costs.
-use Rattle.std.specs.Prelude.{◌≡◌, ℕ, true, false, Option, Some, None, List, [], ◌∷◌}
+use Rattle.std.specs.Prelude.{◌≡◌, true, false, Option, Some, None, List, [], ◌∷◌}
 use Rattle.lf_core.specs.Recursor.{recursor_of}
 use Rattle.lf_core.specs.Inductive.{declared}
 use Rattle.lf_core.specs.declared.constant.ConstInfo.{ConstInfo}

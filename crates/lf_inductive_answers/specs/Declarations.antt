@@ -1,5 +1,5 @@
 -- Declarations that are admitted, and what stands in their terms.
-use Rattle.std.specs.Prelude.{List, [], ◌∷◌}
+use Rattle.std.specs.Prelude.{[], ◌∷◌}
 use Rattle.lf_core.specs.Term.{level_succ, Term, bound, sort, const, app, pi}
 use Rattle.lf_core.specs.declared.constant.IndDecl.{IndDecl}
 use Rattle.lf_inductive_answers.specs.Words.{text, word, dotted, explicit, implicit, ◌⟶◌, two, three, u, one, prop, type, at, at_u, inductive_type, inductive_type_u, constructor}

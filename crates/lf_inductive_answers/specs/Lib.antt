@@ -9,3 +9,5 @@ pub mod Admissions
 pub mod Refusals
 pub mod Needs
 pub mod Reductions
+pub mod Typed
+pub mod LeftOut

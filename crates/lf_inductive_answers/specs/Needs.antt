@@ -6,7 +6,7 @@ use Rattle.lf_core.specs.declared.constant.TaskKey.{TaskKey}
 use Rattle.lf_core.specs.declared.constant.TaskKey.TheVariants.{Body, Real}
 use Rattle.lf_env.specs.Run.{need}
 use Rattle.lf_env.specs.Admission.{add_inductive}
-use Rattle.lf_inductive_answers.specs.Words.{word, dotted, explicit, at}
+use Rattle.lf_inductive_answers.specs.Words.{dotted, explicit, at}
 use Rattle.lf_inductive_answers.specs.Refused.{with_mk, with_names, empty_of_name}
 use Rattle.lf_inductive_answers.specs.Views.{document}
 

@@ -1,8 +1,7 @@
 -- Terms as text, by the rules of docs/language.md under "Printing", as far as these answers need them: of the operators `=`, `∧` and `∨` alone.
 use Rattle.std.specs.Prelude.{ℕ, zero, suc, ◌==◌, ◌||◌, ◌&&◌, not, nat_lt, Bool, true, false, if◌then◌else◌, List, [], ◌∷◌, ◌++◌, slice_get, Option, Some, None, flat_map, decimal}
-use Rattle.lf_core.specs.Term.{Path, Universe, level_zero, level_succ, level_max, level_imax, level_param, level_meta, Term, bound, free, meta, sort, const, app, lam, pi, letin, lit}
+use Rattle.lf_core.specs.Term.{Path, Universe, level_zero, level_succ, level_max, level_imax, level_param, level_meta, Term, bound, sort, const, app, lam, pi, letin, lit}
 use Rattle.lf_core.specs.Same.{same_path}
-use Rattle.lf_core.specs.declared.binder.Binder.{Binder}
 use Rattle.lf_core.specs.declared.binder.BinderKind.{BinderKind}
 use Rattle.lf_core.specs.declared.binder.BinderKind.TheVariants.{Explicit, Implicit}
 use Rattle.lf_inductive_answers.specs.Words.{text, word}

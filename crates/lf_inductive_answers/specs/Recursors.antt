@@ -1,12 +1,11 @@
 -- Recursors of known declarations: their types as text, and their rules.
 use Rattle.std.specs.Prelude.{◌≡◌, ℕ, zero, suc, true, false, Option, Some, None, List, [], ◌∷◌, length, slice_get}
-use Rattle.lf_core.specs.Term.{Path, Term, level_param, bound, sort, const, app, lam, pi}
+use Rattle.lf_core.specs.Term.{Path, Term, bound, sort, const, app, lam, pi}
 use Rattle.lf_core.specs.Recursor.{motive_level_name, recursor_of}
 use Rattle.lf_core.specs.declared.constant.ConstInfo.{ConstInfo}
 use Rattle.lf_core.specs.declared.constant.ConstKind.TheVariants.{Recursor}
 use Rattle.lf_core.specs.declared.constant.Detail.{Detail}
 use Rattle.lf_core.specs.declared.constant.Detail.TheVariants.{Rec}
-use Rattle.lf_core.specs.declared.constant.IndDecl.{IndDecl}
 use Rattle.lf_inductive_answers.specs.Words.{text, word, dotted, explicit, implicit, ◌⟶◌, two, u, type, at}
 use Rattle.lf_inductive_answers.specs.Printed.{term_text}
 use Rattle.lf_inductive_answers.specs.Declarations.{nat, nat_zero, nat_succ, nat_declaration, list_declaration, eq_declaration, false_declaration, and_declaration, or_declaration, d_declaration, acc_declaration, w_declaration, vec_declaration, tree_declaration, fan_declaration}

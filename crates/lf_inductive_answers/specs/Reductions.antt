@@ -1,10 +1,8 @@
 -- Weak head and normal forms by the rules that declarations give, and by those alone.
-use Rattle.std.specs.Prelude.{◌≡◌, ℕ, true, Option, Some, List, [], ◌∷◌, ◌++◌}
-use Rattle.lf_core.specs.Term.{Path, Universe, level_zero, Term, bound, free, const, app, lam, lit}
-use Rattle.lf_core.specs.Spine.{apply}
+use Rattle.std.specs.Prelude.{◌≡◌, true, Option, Some, [], ◌∷◌, ◌++◌}
+use Rattle.lf_core.specs.Term.{level_zero, Term, bound, free, const, app, lam, lit}
 use Rattle.lf_core.specs.Environment.{Context}
 use Rattle.lf_core.specs.Inductive.{declared}
-use Rattle.lf_core.specs.declared.constant.ConstInfo.{ConstInfo}
 use Rattle.lf_env.specs.View.{View, base_view}
 use Rattle.lf_env.specs.Run.{done, out}
 use Rattle.lf_env.specs.Checker.{whnf, normalize}

@@ -1,12 +1,12 @@
 -- Declarations that are refused: why, and under which binders.
-use Rattle.std.specs.Prelude.{◌≡◌, ℕ, true, false, Bool, Option, Some, None, List, [], ◌∷◌}
-use Rattle.lf_core.specs.Term.{Path, free, pi, level_zero}
+use Rattle.std.specs.Prelude.{◌≡◌, false, Option, Some, None, List, [], ◌∷◌}
+use Rattle.lf_core.specs.Term.{Path, free}
 use Rattle.lf_core.specs.Inductive.{own_family}
 use Rattle.lf_core.specs.declared.constant.IndDecl.{IndDecl}
 use Rattle.lf_env.specs.View.{View, base_position}
 use Rattle.lf_env.specs.Run.{Answer, refused, Fault, not_closed, not_positive, bad_result, level_too_high, bad_type, duplicate, not_type, not_function, unknown_constant, Refusal}
 use Rattle.lf_env.specs.Admission.{is_positive, add_inductive}
-use Rattle.lf_inductive_answers.specs.Words.{word, dotted, ◌⟶◌, two, prop, type, at}
+use Rattle.lf_inductive_answers.specs.Words.{word, dotted, ◌⟶◌, two, prop, at}
 use Rattle.lf_inductive_answers.specs.Declarations.{nat, nat_zero}
 use Rattle.lf_inductive_answers.specs.Refused.{bad, deep_domain, in_own_index, nested, other_parameter, other_levels, end_at_other_levels, end_at_other_parameter, other_end, index_missing, index_too_many, end_in_own_index, field_index_missing, field_index_too_many, renamed_inside, no_parameter, too_high, second_too_high, field_no_type, no_type_inside, missing_type, of_type, sort_by_reduction, parameter_missing, free_in_type, bound_in_type, free_in_constructor, meta_in_constructor, with_names, empty_of_name}
 use Rattle.lf_inductive_answers.specs.Views.{nothing, with_numbers, with_lists, document}

@@ -1,14 +1,14 @@
 -- The views over which declarations are admitted here.
 use Rattle.std.specs.Prelude.{true, false, None, Some, List, [], ◌∷◌, ◌++◌}
-use Rattle.lf_core.specs.Term.{Path, level_succ, Term, sort, const}
+use Rattle.lf_core.specs.Term.{Path, level_succ, Term, sort}
 use Rattle.lf_core.specs.Inductive.{declared}
 use Rattle.lf_core.specs.declared.constant.ConstInfo.{ConstInfo}
-use Rattle.lf_core.specs.declared.constant.ConstKind.{ConstKind}
 use Rattle.lf_core.specs.declared.constant.ConstKind.TheVariants.{Axiom, Def}
 use Rattle.lf_core.specs.declared.constant.Detail.TheVariants.{Plain}
+use Rattle.lf_core.specs.declared.constant.IndDecl.{IndDecl}
 use Rattle.lf_env.specs.View.{View, base_entries, base_view}
 use Rattle.lf_inductive_answers.specs.Words.{word, dotted, one, at}
-use Rattle.lf_inductive_answers.specs.Declarations.{nat, nat_zero, nat_declaration, list_declaration, eq_declaration, acc_declaration}
+use Rattle.lf_inductive_answers.specs.Declarations.{nat, nat_zero, nat_declaration, list_declaration, eq_declaration}
 
 abbrev pub nothing : View
 nothing = base_view []
@@ -25,8 +25,13 @@ with_equality = base_view (numbers ++ declared eq_declaration true)
 abbrev pub with_lists : View
 with_lists = base_view (numbers ++ declared list_declaration true)
 
-abbrev pub with_access : View
-with_access = base_view (declared acc_declaration true)
+-- The numbers, and what a declaration adds, eliminating into every sort.
+abbrev pub with : IndDecl → View
+with d = base_view (numbers ++ declared d true)
+
+-- The numbers and equality, and the same.
+abbrev pub with_equality_and : IndDecl → View
+with_equality_and d = base_view (numbers ++ (declared eq_declaration true ++ declared d true))
 
 -- ---- A place in a document, at the position 7.
 

@@ -2,10 +2,12 @@
 #![tactic(auto)]
 
 ghost use Rattle.lf_inductive_answers.specs.Admissions.{Admissions};
+ghost use Rattle.lf_inductive_answers.specs.LeftOut.{LeftOut};
 ghost use Rattle.lf_inductive_answers.specs.Needs.{Needs};
 ghost use Rattle.lf_inductive_answers.specs.Recursors.{Recursors};
 ghost use Rattle.lf_inductive_answers.specs.Reductions.{Reductions};
 ghost use Rattle.lf_inductive_answers.specs.Refusals.{Refusals};
+ghost use Rattle.lf_inductive_answers.specs.Typed.{Typed};
 
 /// Recursors that are known from elsewhere: their types as text, and their rules.
 pub fn recursors_of_known_types()
@@ -30,4 +32,14 @@ pub fn admission_waits()
 /// Weak head and normal forms by the rules of recursors, and where the constructor without fields takes the place of a proof.
 pub fn reduction_by_the_rules()
     ensures { Reductions }
+{}
+
+/// The checker infers a sort for the types of recursors, and for their rules the types that the constructors ask for.
+pub fn recursors_are_typed()
+    ensures { Typed }
+{}
+
+/// What the checker would accept if two conditions of admission were left out.
+pub fn conditions_are_needed()
+    ensures { LeftOut }
 {}
