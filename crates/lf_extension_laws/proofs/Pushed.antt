@@ -132,7 +132,7 @@ lookup_own U d n h q = ap (by_entry (view_with_type U d) n) (find_own U d n h q)
 -- ---- Extension.
 
 -- What isn't there in the one isn't there in the other.
-pub still_not_there : (U V : View) → Extends V U → (t : Path) → there_of U t ≡ not_there → there_of V t ≡ not_there
+still_not_there : (U V : View) → Extends V U → (t : Path) → there_of U t ≡ not_there → there_of V t ≡ not_there
 still_not_there U V x t h = sym (subst (λ s. SameThere s (there_of V t)) h (there_kept U V x t))
 
 lookups_kept : (U V : View) → Extends V U → (d : IndDecl) → there_of U d.name ≡ not_there → there_of V d.name ≡ not_there → (n : Path) → SameLookup (lookup_of (view_with_type U d) n) (lookup_of (view_with_type V d) n)

@@ -1,15 +1,10 @@
 use Rattle.std.proofs.Common.{refl}
 use Rattle.std.specs.Char.{encode_utf8}
 use Rattle.std.specs.Fmt.{digits}
-use Rattle.lf_env.specs.LevelTest.{is_same, is_at_most}
-use Rattle.lf_env.specs.Whnf.{turn_limit, whnf_body}
-use Rattle.lf_env.specs.Infer.{infer_body}
-use Rattle.lf_env.specs.Equal.{equal_body}
-use Rattle.lf_env.specs.Normalize.{normalize_body}
 use Rattle.lf_inductive_answers.specs.Recursors.{Recursors}
 
 pub recursors : Recursors
-unfolding encode_utf8 digits is_same is_at_most turn_limit whnf_body infer_body equal_body normalize_body
+unfolding encode_utf8 digits
 recursors = record {
   nat_constant = refl;
   nat_type = refl;

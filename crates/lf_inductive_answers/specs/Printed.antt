@@ -1,5 +1,6 @@
--- Terms as text, by the rules of docs/language.md under "Printing", as far as these answers need them: of the operators `=`, `∧` and `∨` alone.
+-- Terms as text, as a report has them: with all arguments, without levels. Of the operators, `=`, `∧` and `∨` alone.
 use Rattle.std.specs.Prelude.{ℕ, zero, suc, ◌==◌, ◌||◌, ◌&&◌, not, nat_lt, Bool, true, false, if◌then◌else◌, List, [], ◌∷◌, ◌++◌, slice_get, Option, Some, None, flat_map, decimal}
+use Prim.Native.String.{String}
 use Rattle.lf_core.specs.Term.{Path, Universe, level_zero, level_succ, level_max, level_imax, level_param, level_meta, Term, bound, sort, const, app, lam, pi, letin, lit}
 use Rattle.lf_core.specs.Same.{same_path}
 use Rattle.lf_core.specs.declared.binder.BinderKind.{BinderKind}
@@ -23,26 +24,38 @@ in_parentheses false t = t
 
 -- ---- Levels, and sorts.
 
--- What stands under n successors, as a sum; a part of it is a number, a name, or stands in parentheses.
-abbrev pub sum_text : Universe → (name whole part : List ℕ) → ℕ → List ℕ
-sum_text level_zero name whole part n = decimal n
-sum_text l name whole part zero = whole
-sum_text l name whole part n = part ++ (text " + " ++ decimal n)
+-- A level as it is written; a part of another stands in parentheses, unless it is a number or a name.
+pub record Written : Type 0 where
+  pub is_atom : Bool
+  pub shown : List ℕ
 
-abbrev pub level_text : List Path → Bool → ℕ → Universe → List ℕ
-level_text names inner n level_zero = decimal n
-level_text names inner n (level_succ l) = level_text names inner (suc n) l
-level_text names inner zero (level_param k) = name_text (slice_get names k)
-level_text names inner n (level_param k) = in_parentheses inner (name_text (slice_get names k) ++ (text " + " ++ decimal n))
-level_text names inner n (level_max l m) = in_parentheses inner (text "max " ++ (level_text names true 0 l ++ (text " " ++ level_text names true 0 m)))
-level_text names inner n (level_imax l m) = in_parentheses inner (text "imax " ++ (level_text names true 0 l ++ (text " " ++ level_text names true 0 m)))
-level_text names inner n (level_meta k) = text "?"
+abbrev pub part : Written → List ℕ
+part w = in_parentheses (not w.is_atom) w.shown
+
+abbrev pub plus : ℕ → Written → Written
+plus zero w = w
+plus n w = record { is_atom = false; shown = part w ++ (text " + " ++ decimal n) }
+
+abbrev pub operation : List ℕ → Written → Written → Written
+operation name v w = record { is_atom = false; shown = name ++ (text " " ++ (part v ++ (text " " ++ part w))) }
+
+abbrev pub atom : List ℕ → Written
+atom t = record { is_atom = true; shown = t }
+
+-- The level under n successors.
+abbrev pub written : List Path → ℕ → Universe → Written
+written names n level_zero = atom (decimal n)
+written names n (level_succ l) = written names (suc n) l
+written names n (level_param k) = plus n (atom (name_text (slice_get names k)))
+written names n (level_max l m) = plus n (operation (text "max") (written names 0 l) (written names 0 m))
+written names n (level_imax l m) = plus n (operation (text "imax") (written names 0 l) (written names 0 m))
+written names n (level_meta k) = plus n (atom (text "?"))
 
 abbrev pub sort_text : List Path → Universe → List ℕ
 sort_text names level_zero = text "Prop"
 sort_text names (level_succ level_zero) = text "Type"
-sort_text names (level_succ l) = text "Type " ++ level_text names true 0 l
-sort_text names l = text "Sort " ++ level_text names true 0 l
+sort_text names (level_succ l) = text "Type " ++ part (written names 0 l)
+sort_text names l = text "Sort " ++ part (written names 0 l)
 
 -- ---- Terms.
 
@@ -66,19 +79,23 @@ binder_text Implicit x A = text "{" ++ (path_text x ++ (text " : " ++ (A ++ text
 abbrev pub spaced : List ℕ → List ℕ → List ℕ
 spaced f a = f ++ (text " " ++ a)
 
+-- Whether it is a constant of this name with all its arguments: the place of a function, which asks for 1023, has more of them.
+abbrev pub is_operator : String → ℕ → Path → Bool
+is_operator name p c = same_path c (word name) && not (p == 1023)
+
 -- Under these names of levels, at a place that asks for this level, under binders of these names, the innermost first.
 abbrev pub printed : List Path → ℕ → List Path → Term → List ℕ
 printed ls p xs (bound i) = name_text (slice_get xs i)
 printed ls p xs (sort l) = sort_text ls l
 printed ls p xs (const c ms) = path_text c
 printed ls p xs (app (app (app (const c ms) A) a) b) =
-    if same_path c (word "Eq")
+    if is_operator "Eq" p c
     then in_parentheses (nat_lt 50 p) (printed ls 51 xs a ++ (text " = " ++ printed ls 51 xs b))
     else in_parentheses (nat_lt 1023 p) (spaced (printed ls 1023 xs (app (app (const c ms) A) a)) (printed ls 1024 xs b))
 printed ls p xs (app (app (const c ms) a) b) =
-    if same_path c (word "And")
+    if is_operator "And" p c
     then in_parentheses (nat_lt 35 p) (printed ls 36 xs a ++ (text " ∧ " ++ printed ls 35 xs b))
-    else (if same_path c (word "Or")
+    else (if is_operator "Or" p c
     then in_parentheses (nat_lt 30 p) (printed ls 31 xs a ++ (text " ∨ " ++ printed ls 30 xs b))
     else in_parentheses (nat_lt 1023 p) (spaced (printed ls 1023 xs (app (const c ms) a)) (printed ls 1024 xs b)))
 printed ls p xs (app f a) = in_parentheses (nat_lt 1023 p) (spaced (printed ls 1023 xs f) (printed ls 1024 xs a))

@@ -35,11 +35,11 @@ counted_again n = nat_rec (lam (explicit "x") nat nat) (lit 0) (lam (explicit "x
 
 -- ---- Equality: Eq.rec α a M m b h, at the level 1.
 
-abbrev pub refl : Term → Term → Term
-refl A a = two (const (dotted "Eq" "refl") (one ∷ [])) A a
+abbrev pub refl_at : Term → Term → Term
+refl_at A a = two (const (dotted "Eq" "refl") (one ∷ [])) A a
 
-abbrev pub equal : Term → Term → Term → Term
-equal A a b = three (const (word "Eq") (one ∷ [])) A a b
+abbrev pub equation : Term → Term → Term → Term
+equation A a b = three (const (word "Eq") (one ∷ [])) A a b
 
 abbrev pub transport : Term → Term → Term → Term → Term → Term → Term
 transport A a M m b h = three (three (const (dotted "Eq" "rec") (one ∷ one ∷ [])) A a M) m b h
@@ -110,32 +110,32 @@ pub record Reductions : Type 0 where
   pub counts_successors : normal (counted_again (app nat_succ (app nat_succ nat_zero))) ≡ Some (lit 2)
   -- the call, one for the number, the nodes of the rule at its level with its arguments, and those that each of its lambdas leaves:
   -- 2 + 49 + 33 + 29 + 17 + 19 and 2 + 47 + 33 + 29 + 17 + 15 for a successor, 2 + 29 + 17 + 13 + 1 for 0
-  pub successor : whnf V 512 [] (on (app nat_succ (app nat_succ nat_zero))) 149 ≡ done (two (free 2) (app nat_succ nat_zero) (on (app nat_succ nat_zero))) 0
-  pub successor_too_few : whnf V 512 [] (on (app nat_succ (app nat_succ nat_zero))) 148 ≡ out
-  pub literal : whnf V 512 [] (on (lit 2)) 143 ≡ done (two (free 2) (lit 1) (on (lit 1))) 0
-  pub zero : whnf V 512 [] (on nat_zero) 62 ≡ done (free 1) 0
-  pub zero_literal : whnf V 512 [] (on (lit 0)) 62 ≡ done (free 1) 0
+  pub at_successor : whnf V 512 [] (on (app nat_succ (app nat_succ nat_zero))) 149 ≡ done (two (free 2) (app nat_succ nat_zero) (on (app nat_succ nat_zero))) 0
+  pub at_successor_too_few : whnf V 512 [] (on (app nat_succ (app nat_succ nat_zero))) 148 ≡ out
+  pub at_literal : whnf V 512 [] (on (lit 2)) 143 ≡ done (two (free 2) (lit 1) (on (lit 1))) 0
+  pub at_zero : whnf V 512 [] (on nat_zero) 62 ≡ done (free 1) 0
+  pub at_zero_literal : whnf V 512 [] (on (lit 0)) 62 ≡ done (free 1) 0
   -- stuck: a variable, a successor of nothing, the constructor of another type, no level
-  pub variable : reduced (nat ∷ []) (on (free 0)) ≡ Some (on (free 0))
+  pub at_variable : reduced (nat ∷ []) (on (free 0)) ≡ Some (on (free 0))
   pub no_argument : reduced [] (on nat_succ) ≡ Some (on nat_succ)
   pub another_type : reduced [] (on (app (list_word "nil") nat)) ≡ Some (on (app (list_word "nil") nat))
   pub no_level : reduced [] (app (const (dotted "Nat" "rec") []) nat_zero) ≡ Some (app (const (dotted "Nat" "rec") []) nat_zero)
   -- equality by its rule
-  pub along_refl : reduced [] (transport (free 0) (free 1) (free 2) (free 3) (free 1) (refl (free 0) (free 1))) ≡ Some (free 3)
+  pub along_refl : reduced [] (transport (free 0) (free 1) (free 2) (free 3) (free 1) (refl_at (free 0) (free 1))) ≡ Some (free 3)
   -- a variable proof of a = a gives way to `Eq.refl`, and one of a = b doesn't
-  pub along_loop : reduced (with_proof (equal (free 0) (free 1) (free 1))) (along (free 1)) ≡ Some (free 8)
-  pub along_path : reduced (with_proof (equal (free 0) (free 1) (free 2))) (along (free 2)) ≡ Some (along (free 2))
+  pub along_loop : reduced (with_proof (equation (free 0) (free 1) (free 1))) (along (free 1)) ≡ Some (free 8)
+  pub along_path : reduced (with_proof (equation (free 0) (free 1) (free 2))) (along (free 2)) ≡ Some (along (free 2))
   -- one of 1 = Nat.succ 0 does, and one of 1 = 0 doesn't
-  pub along_number : reduced (with_number_proof (equal nat (lit 1) (app nat_succ nat_zero))) (from_one (app nat_succ nat_zero)) ≡ Some (free 8)
-  pub along_wrong_number : reduced (with_number_proof (equal nat (lit 1) nat_zero)) (from_one nat_zero) ≡ Some (from_one nat_zero)
+  pub along_number : reduced (with_number_proof (equation nat (lit 1) (app nat_succ nat_zero))) (from_one (app nat_succ nat_zero)) ≡ Some (free 8)
+  pub along_wrong_number : reduced (with_number_proof (equation nat (lit 1) nat_zero)) (from_one nat_zero) ≡ Some (from_one nat_zero)
   -- a variable proof of `True` gives way, and a member of a type that isn't declared in `Prop` doesn't
   pub any_truth : reduced (at "True" ∷ []) (true_rec (free 0)) ≡ Some (free 8)
   pub any_unit : reduced (unit ∷ []) (unit_rec (free 0)) ≡ Some (unit_rec (free 0))
   pub the_unit : reduced [] (unit_rec (const (dotted "Unit" "unit") (level_zero ∷ []))) ≡ Some (free 8)
   -- the length of a list of two numbers
-  pub length : normal (length_of (cons (lit 5) (cons (lit 6) (app (list_word "nil") nat)))) ≡ Some (lit 2)
+  pub list_length : normal (length_of (cons (lit 5) (cons (lit 6) (app (list_word "nil") nat)))) ≡ Some (lit 2)
   -- the left of two proofs
-  pub left : reduced (prop ∷ prop ∷ free 0 ∷ free 1 ∷ []) (left_of (free 0) (free 1) (two (two (const (dotted "And" "intro") []) (free 0) (free 1)) (free 2) (free 3))) ≡ Some (free 2)
+  pub left_proof : reduced (prop ∷ prop ∷ free 0 ∷ free 1 ∷ []) (left_of (free 0) (free 1) (two (two (const (dotted "And" "intro") []) (free 0) (free 1)) (free 2) (free 3))) ≡ Some (free 2)
   -- recursive calls under `fun`
   pub access : reduced [] (acc_rec (free 4) (acc_intro (free 4) (free 5)))
       ≡ Some (three (free 3) (free 4) (free 5) (lam (explicit "y") (free 0) (lam (explicit "a") (two (free 1) (bound 0) (free 4)) (acc_rec (bound 1) (two (free 5) (bound 1) (bound 0))))))

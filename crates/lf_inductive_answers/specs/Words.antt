@@ -37,7 +37,7 @@ two f a b = app (app f a) b
 abbrev pub three : Term → Term → Term → Term → Term
 three f a b c = app (two f a b) c
 
--- The level parameters, by their places.
+-- The first level parameter, and the level 1.
 abbrev pub u : Universe
 u = level_param 0
 
@@ -53,7 +53,7 @@ type = sort one
 abbrev pub at : String → Term
 at a = const (word a) []
 
--- A declaration without levels, and one constructor.
+-- A declaration without level parameters, and one constructor.
 abbrev pub inductive_type : String → ℕ → Term → List CtorInfo → IndDecl
 inductive_type name params A cs = record { name = word name; levels = []; params = params; ty = A; ctors = cs }
 
