@@ -1,6 +1,6 @@
 -- Declarations that are admitted, and what stands in their terms.
 use Rattle.std.specs.Prelude.{[], ◌∷◌}
-use Rattle.lf_core.specs.Term.{level_succ, Term, bound, sort, const, app, pi}
+use Rattle.lf_core.specs.Term.{level_succ, level_max, level_param, Term, bound, sort, const, app, pi}
 use Rattle.lf_core.specs.declared.constant.IndDecl.{IndDecl}
 use Rattle.lf_inductive_answers.specs.Words.{text, word, dotted, explicit, implicit, ◌⟶◌, two, three, u, one, prop, type, at, at_u, inductive_type, inductive_type_u, constructor}
 
@@ -100,3 +100,19 @@ tree_declaration = inductive_type "Tree" 0 type (constructor "Tree" "leaf" (at "
 -- inductive Fan : Type where | fan (f : ∀ {n : Nat}, Fan) : Fan
 abbrev pub fan_declaration : IndDecl
 fan_declaration = inductive_type "Fan" 0 type (constructor "Fan" "fan" (pi (explicit "f") (pi (implicit "n") nat (at "Fan")) (at "Fan")) ∷ [])
+
+-- inductive Sigma {α : Type u} (β : α → Type v) : Type (max u v) where | mk (fst : α) (snd : β fst) : Sigma β
+abbrev pub sigma : Term → Term → Term
+sigma A B = two (const (word "Sigma") (u ∷ level_param 1 ∷ [])) A B
+
+abbrev pub type_v : Term
+type_v = sort (level_succ (level_param 1))
+
+abbrev pub sigma_declaration : IndDecl
+sigma_declaration = record {
+  name = word "Sigma";
+  levels = word "u" ∷ word "v" ∷ [];
+  params = 2;
+  ty = pi (implicit "α") type_u (pi (explicit "β") (bound 0 ⟶ type_v) (sort (level_succ (level_max u (level_param 1)))));
+  ctors = constructor "Sigma" "mk" (pi (implicit "α") type_u (pi (implicit "β") (bound 0 ⟶ type_v) (pi (explicit "fst") (bound 1) (pi (explicit "snd") (app (bound 1) (bound 0)) (sigma (bound 3) (bound 2)))))) ∷ [];
+}

@@ -8,7 +8,7 @@ use Rattle.lf_core.specs.declared.constant.Detail.{Detail}
 use Rattle.lf_core.specs.declared.constant.Detail.TheVariants.{Rec}
 use Rattle.lf_inductive_answers.specs.Words.{text, word, dotted, explicit, implicit, ◌⟶◌, two, u, type, at}
 use Rattle.lf_inductive_answers.specs.Printed.{term_text}
-use Rattle.lf_inductive_answers.specs.Declarations.{nat, nat_zero, nat_succ, nat_declaration, list_declaration, eq_declaration, false_declaration, and_declaration, or_declaration, d_declaration, acc_declaration, w_declaration, vec_declaration, tree_declaration, fan_declaration}
+use Rattle.lf_inductive_answers.specs.Declarations.{nat, nat_zero, nat_succ, nat_declaration, list_declaration, eq_declaration, false_declaration, and_declaration, or_declaration, d_declaration, acc_declaration, w_declaration, vec_declaration, tree_declaration, fan_declaration, sigma_declaration}
 
 abbrev pub type_text : ConstInfo → List ℕ
 type_text c = term_text c.levels c.ty
@@ -129,6 +129,8 @@ pub record Recursors : Type 0 where
   pub or_levels : (recursor_of or_declaration false).levels ≡ []
   -- a field whose type depends on an earlier field
   pub d_type : type_text (recursor_of d_declaration true) ≡ text "∀ {motive : D → Sort u}, (∀ (n : Nat), ∀ (p : n = n), motive (D.mk n p)) → ∀ (t : D), motive t"
+  pub sigma_type : type_text (recursor_of sigma_declaration true) ≡ text "∀ {α : Type u}, ∀ {β : α → Type v}, ∀ {motive : Sigma α β → Sort u_1}, (∀ (fst : α), ∀ (snd : β fst), motive (Sigma.mk α β fst snd)) → ∀ (t : Sigma α β), motive t"
+  pub sigma_levels : (recursor_of sigma_declaration true).levels ≡ word "u_1" ∷ word "u" ∷ word "v" ∷ []
   -- a recursive field under pis, at an index
   pub acc_type : type_text (recursor_of acc_declaration true) ≡ text "∀ {α : Sort u}, ∀ {r : α → α → Prop}, ∀ {motive : ∀ (a : α), Acc α r a → Sort u_1}, (∀ (x : α), ∀ (h : ∀ (y : α), r y x → Acc α r y), (∀ (y : α), ∀ (a : r y x), motive y (h y a)) → motive x (Acc.intro α r x h)) → ∀ {a : α}, ∀ (t : Acc α r a), motive a t"
   pub acc_counts : counts_of (recursor_of acc_declaration true) ≡ Some (record { params = 2; minors = 1; indices = 1; rules = 1 })
