@@ -2,21 +2,22 @@
 use Rattle.std.proofs.Common.{◌≡◌, ℕ, suc, Bool, true, false, ◌&&◌, if◌then◌else◌, List, [], ◌∷◌, Option, Some, None, refl, sym, ap, subst, ◌∙◌}
 use Rattle.lf_core.specs.Term.{Path, Term, bound, free, meta, sort, const, app, lam, pi, letin, lit}
 use Rattle.lf_core.specs.Same.{same_path}
+use Rattle.lf_core.specs.declared.constant.ConstInfo.{ConstInfo}
 use Rattle.lf_env.specs.View.{View, Entry, find_entry, placed_from, Lookup, found, absent, need_body, need_real, by_entry, lookup_of, There, there, not_there, not_known, no_entry, there_by, there_of, body_of}
 use Rattle.lf_env.specs.Extends.{SameLookup, IsAnswered, position_placed, Extends}
 use Rattle.lf_env.specs.Run.{Run, refuse, not_closed}
 use Rattle.lf_env.specs.Calls.{checked, Seen, known, unknown, missing, see}
 use Rattle.lf_env.specs.Infer.{sort_of}
-use Rattle.lf_env.specs.Checker.{calls, is_closed, is_value_closed, unless_there, body_height, seen_height, greatest_height, height_of, check_value}
-use Rattle.lf_extension_laws.specs.Extension.{Kept, Agree, ExtensionLaw}
+use Rattle.lf_env.specs.Checker.{calls, is_closed, is_value_closed, unless_there, body_height, seen_height, greatest_height, height_of, add_header, check_value, add_decl}
+use Rattle.lf_extension_laws.specs.Extension.{Kept, Agree}
 use Rattle.lf_extension_laws.proofs.Kept.{kept_self, kept_then, kept_choose, see_kept, body_kept, kept_seen, kept_body}
 use Rattle.lf_extension_laws.proofs.Extended.{kept_sort, calls_kept}
 
-abbrev place_of : Option Entry → Option ℕ
+abbrev pub place_of : Option Entry → Option ℕ
 place_of (Some e) = Some e.position
 place_of None = None
 
-place_found : (i : ℕ) (es : List Entry) (n : Path) → position_placed (placed_from i es n) ≡ place_of (find_entry es n)
+pub place_found : (i : ℕ) (es : List Entry) (n : Path) → position_placed (placed_from i es n) ≡ place_of (find_entry es n)
 place_found i [] n = refl
 place_found i (e ∷ es) n = at (same_path e.info.name n) (place_found (suc i) es n)
   where
@@ -24,7 +25,7 @@ place_found i (e ∷ es) n = at (same_path e.info.name n) (place_found (suc i) e
     at true h = refl
     at false h = h
 
-abbrev SameThere : There → There → Type 0
+abbrev pub SameThere : There → There → Type 0
 SameThere (not_known k) t = Unit {0}
 SameThere s t = s ≡ t
 
@@ -71,12 +72,13 @@ there_by_entry U V x n (Some e) q =
     (sym (ap place_of q) ∙ sym (place_found 0 U.entries n) ∙ x.entries n (subst IsAnswered (sym (ap (by_entry U n) q)) tt) ∙ place_found 0 V.entries n)
 there_by_entry U V x n None q = by_no_entry U V x n (lookup_of U n) refl q
 
-there_kept : (U V : View) → Extends V U → (n : Path) → SameThere (there_of U n) (there_of V n)
+pub there_kept : (U V : View) → Extends V U → (n : Path) → SameThere (there_of U n) (there_of V n)
 there_kept U V x n = there_by_entry U V x n (find_entry U.entries n) refl
 
-kept_unless : {A : Type 0} (n : Path) (s t : There) (m k : Run A) (u : ℕ) → SameThere s t → Kept (m u) (k u) → Kept (unless_there n s m u) (unless_there n t k u)
+-- What follows the test of a name has to be kept where the name isn't there.
+pub kept_unless : {A : Type 0} (n : Path) (s t : There) (m k : Run A) (u : ℕ) → SameThere s t → (s ≡ not_there → Kept (m u) (k u)) → Kept (unless_there n s m u) (unless_there n t k u)
 kept_unless n (there p) t m k u e h = subst (λ r. Kept (unless_there n (there p) m u) (unless_there n r k u)) e refl
-kept_unless n not_there t m k u e h = subst (λ r. Kept (m u) (unless_there n r k u)) e h
+kept_unless n not_there t m k u e h = subst (λ r. Kept (m u) (unless_there n r k u)) e (h refl)
 kept_unless n (not_known i) t m k u e h = tt
 
 -- Heights
@@ -124,11 +126,12 @@ kept_check_value U V x depth ty (Some v) u =
     kept_then ((calls U depth).equal [] X ty w) ((calls V depth).equal [] X ty w) _ _ (a.equal [] X ty w) λ r z.
     kept_choose r (height_of U v) _ (height_of V v) _ z (kept_height U V x v z) refl
 
-pub extension_law : ExtensionLaw
-extension_law U V x depth = record {
-  calls = calls_kept U V x depth;
-  add_header = λ n ty u. kept_choose (is_closed ty) (unless_there n (there_of U n) (sort_of (calls U depth) checked [] ty)) (refuse not_closed) (unless_there n (there_of V n) (sort_of (calls V depth) checked [] ty)) (refuse not_closed) u
-      (kept_unless n (there_of U n) (there_of V n) (sort_of (calls U depth) checked [] ty) (sort_of (calls V depth) checked [] ty) u (there_kept U V x n) (kept_sort (calls U depth) (calls V depth) (calls_kept U V x depth) checked [] ty u)) refl;
-  add_decl = λ c u. kept_choose (is_closed c.ty && is_value_closed c.value) (unless_there c.name (there_of U c.name) (check_value U depth c.ty c.value)) (refuse not_closed) (unless_there c.name (there_of V c.name) (check_value V depth c.ty c.value)) (refuse not_closed) u
-      (kept_unless c.name (there_of U c.name) (there_of V c.name) (check_value U depth c.ty c.value) (check_value V depth c.ty c.value) u (there_kept U V x c.name) (kept_check_value U V x depth c.ty c.value u)) refl;
-}
+pub header_kept : (U V : View) → Extends V U → (depth : ℕ) (n : Path) (ty : Term) (u : ℕ) → Kept (add_header U depth n ty u) (add_header V depth n ty u)
+header_kept U V x depth n ty u =
+    kept_choose (is_closed ty) (unless_there n (there_of U n) (sort_of (calls U depth) checked [] ty)) (refuse not_closed) (unless_there n (there_of V n) (sort_of (calls V depth) checked [] ty)) (refuse not_closed) u
+    (kept_unless n (there_of U n) (there_of V n) (sort_of (calls U depth) checked [] ty) (sort_of (calls V depth) checked [] ty) u (there_kept U V x n) (λ e. kept_sort (calls U depth) (calls V depth) (calls_kept U V x depth) checked [] ty u)) refl
+
+pub decl_kept : (U V : View) → Extends V U → (depth : ℕ) (c : ConstInfo) (u : ℕ) → Kept (add_decl U depth c u) (add_decl V depth c u)
+decl_kept U V x depth c u =
+    kept_choose (is_closed c.ty && is_value_closed c.value) (unless_there c.name (there_of U c.name) (check_value U depth c.ty c.value)) (refuse not_closed) (unless_there c.name (there_of V c.name) (check_value V depth c.ty c.value)) (refuse not_closed) u
+    (kept_unless c.name (there_of U c.name) (there_of V c.name) (check_value U depth c.ty c.value) (check_value V depth c.ty c.value) u (there_kept U V x c.name) (λ e. kept_check_value U V x depth c.ty c.value u)) refl

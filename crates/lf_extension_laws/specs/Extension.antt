@@ -3,11 +3,13 @@ use Rattle.std.specs.Prelude.{◌≡◌, ℕ, Bool}
 use Rattle.lf_core.specs.Term.{Path, Term}
 use Rattle.lf_core.specs.Environment.{Context}
 use Rattle.lf_core.specs.declared.constant.ConstInfo.{ConstInfo}
+use Rattle.lf_core.specs.declared.constant.IndDecl.{IndDecl}
 use Rattle.lf_env.specs.View.{View}
 use Rattle.lf_env.specs.Extends.{Extends}
 use Rattle.lf_env.specs.Run.{Answer, need}
 use Rattle.lf_env.specs.Calls.{Mode, Calls}
 use Rattle.lf_env.specs.Checker.{calls, add_header, add_decl}
+use Rattle.lf_env.specs.Admission.{add_inductive}
 
 -- An answer that isn't a need is the other answer.
 abbrev pub Kept : {A : Type 0} → Answer A → Answer A → Type 0
@@ -24,6 +26,7 @@ pub record AgreeOn (U V : View) (depth : ℕ) : Type 0 where
   pub calls : Agree (calls U depth) (calls V depth)
   pub add_header : (n : Path) (ty : Term) (u : ℕ) → Kept (add_header U depth n ty u) (add_header V depth n ty u)
   pub add_decl : (c : ConstInfo) (u : ℕ) → Kept (add_decl U depth c u) (add_decl V depth c u)
+  pub add_inductive : (d : IndDecl) (u : ℕ) → Kept (add_inductive U depth d u) (add_inductive V depth d u)
 
 abbrev pub ExtensionLaw : Type 0
 ExtensionLaw = (U V : View) → Extends V U → (depth : ℕ) → AgreeOn U V depth

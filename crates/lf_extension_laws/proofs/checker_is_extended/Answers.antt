@@ -1,4 +1,4 @@
-use Rattle.lf_extension_laws.proofs.Extended_declarations.{extension_law}
+use Rattle.lf_extension_laws.proofs.Extended_admission.{extension_law}
 use Rattle.lf_extension_laws.proofs.checker_is_extended.Goals as goal
 
 pub returns : goal.returns

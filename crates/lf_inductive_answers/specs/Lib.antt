@@ -1,0 +1,13 @@
+pub mod Words
+pub mod Printed
+pub mod Declarations
+pub mod Elimination
+pub mod Refused
+pub mod Views
+pub mod Recursors
+pub mod Admissions
+pub mod Refusals
+pub mod Needs
+pub mod Reductions
+pub mod Typed
+pub mod LeftOut
