@@ -5,3 +5,4 @@ pub mod Pushed
 pub mod New_names
 pub mod Accepted
 pub mod All
+pub mod Exact_forms

@@ -2,6 +2,12 @@
 #![tactic(auto)]
 
 ghost use Rattle.lf_admission_laws.specs.Admission.{AdmissionIsSound};
+ghost use Rattle.lf_admission_laws.specs.Forms.{FormTestsAreExact};
+
+/// The tests of form pass just what the rules of admission ask for.
+pub fn tests_of_form_are_exact()
+    ensures { FormTestsAreExact }
+{}
 
 /// What `add_inductive` accepts over a derived list, under names that the list has, is admitted and keeps the list derived.
 pub fn accepted_is_admitted()
