@@ -1,32 +1,20 @@
 -- A derived list that the view knows is one over which the checker is sound.
-use Rattle.std.proofs.Common.{◌≡◌, ◌⊎◌, inl, inr, ℕ, zero, suc, Bool, true, ◌&&◌, List, [], ◌∷◌, ◌++◌, length, refl, sym, ap, subst, ◌∙◌, arith, Option, Some, None, slice_get, Contains}
-use Rattle.std.proofs.lemmas.Bool.{ltb-true, and_parts}
-use Rattle.lf_core.specs.Term.{Path, Universe, Term, bound, free, meta, sort, const, app, lam, pi, letin, lit}
-use Rattle.lf_core.specs.Scope.{Scoped}
-use Rattle.lf_core.specs.Environment.{Environment, Declared, Fresh, nat, NamesDeclared, LevelsBelow}
+use Rattle.std.proofs.Common.{◌≡◌, ℕ, zero, suc, List, [], ◌∷◌, length, refl, sym, ap, subst, ◌∙◌, arith, Some, slice_get, Contains}
+use Rattle.lf_core.specs.Term.{Path, Term}
+use Rattle.lf_core.specs.Environment.{Environment, Declared}
 use Rattle.lf_core.specs.Telescope.{pi_count}
 use Rattle.lf_core.specs.Recursor.{recursor_family, recursor_rules}
 use Rattle.lf_core.specs.Inductive.{type_of}
-use Rattle.lf_core.specs.Judgment.{Equal, HasType, conversion, has_type, is_type}
-use Rattle.lf_core.specs.Derived.{Stated, Derived, with_value}
+use Rattle.lf_core.specs.Derived.{Derived}
 use Rattle.lf_core.specs.declared.constant.ConstInfo.{ConstInfo}
-use Rattle.lf_core.specs.declared.constant.ConstKind.TheVariants.{Def, Theorem}
 use Rattle.lf_core.specs.declared.constant.Detail.{Detail}
 use Rattle.lf_core.specs.declared.constant.Detail.TheVariants.{Plain, Ind, Ctor, Rec}
 use Rattle.lf_inductive_laws.specs.Recursors.{AllRight}
 use Rattle.lf_inductive_laws.specs.Closed.{RulesRight, ConstantRight}
 use Rattle.lf_inductive_laws.specs.Declarations.{RecursorDeclared}
-use Rattle.lf_env.specs.View.{View, Entry, find_entry, found, lookup_of, There, there, not_there, not_known, there_by, there_of}
-use Rattle.lf_env.specs.Run.{Run, refuse, choose, not_closed, wrong_value}
-use Rattle.lf_env.specs.Calls.{checked, Calls}
-use Rattle.lf_env.specs.Infer.{sort_of}
-use Rattle.lf_env.specs.Checker.{calls, is_scoped, is_closed, is_value_closed, unless_there, add_header, height_of, check_value, add_decl}
-use Rattle.lf_checker_laws.specs.Soundness.{Held, HeldBeside, Names, PartsHeld, ClosedList, Post, Typed, Sound}
-use Rattle.lf_checker_laws.specs.Declarations.{Knows, HasBeside, DerivedIsClosedList, DerivedSoundness, AllEntries, AcceptedIsDerived}
-use Rattle.lf_checker_laws.proofs.Tests.{no_false}
-use Rattle.lf_checker_laws.proofs.Runs.{post_then, post_any, post_map, post_choose, Yes}
-use Rattle.lf_checker_laws.proofs.Views.{found_is}
-use Rattle.lf_checker_laws.proofs.Types.{InSort, sort_sound}
+use Rattle.lf_env.specs.View.{View}
+use Rattle.lf_checker_laws.specs.Soundness.{Names, PartsHeld}
+use Rattle.lf_checker_laws.specs.Declarations.{Knows, HasBeside, DerivedIsClosedList, DerivedSoundness}
 use Rattle.lf_checker_laws.proofs.All.{calls_sound}
 use Rattle.lf_checker_laws.proofs.Known.{held_of, names_of}
 use Rattle.lf_inductive_laws.proofs.Closes.{derived_is_closed}

@@ -1,12 +1,11 @@
 -- The recursor of an inductive declaration: its type and its rules, as a function of the declaration (Lean 4 reference manual,
 -- "Inductive Types", on recursors; Carneiro 2019, chapter 2). Names and kinds of binders are this project's.
-use Rattle.std.specs.Prelude.{ℕ, zero, suc, ◌+◌, Bool, true, false, ◌||◌, if◌then◌else◌, None, List, [], ◌∷◌, ◌++◌, length, map, drop, codes, decimal}
+use Rattle.std.specs.Prelude.{ℕ, zero, suc, ◌+◌, Bool, false, ◌||◌, if◌then◌else◌, None, List, [], ◌∷◌, ◌++◌, length, drop, codes, decimal}
 use Rattle.lf_core.specs.Term.{Path, Universe, level_zero, level_param, Term, bound, free, sort, const, lam, pi}
 use Rattle.lf_core.specs.Same.{same_path}
 use Rattle.lf_core.specs.Substitution.{level_instantiate}
 use Rattle.lf_core.specs.Spine.{apply, head_of, arguments_of}
 use Rattle.lf_core.specs.Telescope.{Local, Telescope, variables, pis_over, lambdas_over, Opened, open_pis, pi_count, open_all, implicit, explicit}
-use Rattle.lf_core.specs.declared.binder.Binder.{Binder}
 use Rattle.lf_core.specs.declared.binder.BinderKind.TheVariants.{Explicit, Implicit}
 use Rattle.lf_core.specs.declared.constant.ConstInfo.{ConstInfo}
 use Rattle.lf_core.specs.declared.constant.ConstKind.TheVariants.{Recursor}

@@ -1,6 +1,6 @@
 -- Telescopes: typed binders in a row (de Bruijn 1991, "Telescopic mappings in typed lambda calculus"). The first stands for the free
 -- variable k, the next for k + 1, and each type speaks of the variables before its own; the types of one that begins at 0 are a context.
-use Rattle.std.specs.Prelude.{ℕ, zero, suc, List, [], ◌∷◌}
+use Rattle.std.specs.Prelude.{ℕ, suc, List, [], ◌∷◌}
 use Rattle.lf_core.specs.Term.{Term, free, lam, pi}
 use Rattle.lf_core.specs.Substitution.{instantiate, abstract}
 use Rattle.lf_core.specs.declared.binder.Binder.{Binder}
