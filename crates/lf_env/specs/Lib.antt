@@ -8,3 +8,4 @@ pub mod Infer
 pub mod Equal
 pub mod Normalize
 pub mod Checker
+pub mod Names
