@@ -9,3 +9,5 @@ pub mod Equal
 pub mod Normalize
 pub mod Checker
 pub mod Names
+pub mod Layer
+pub mod Answer

@@ -1,6 +1,10 @@
 //! Views of an environment, and the plain checker as a definition.
 #![tactic(auto)]
 
+mod answer;
 mod entry;
+mod layer;
+mod view;
 
-pub use entry::{NameParts, SharedEntry};
+pub use answer::{BodyOf, Lookup};
+pub use view::{BASE, View};

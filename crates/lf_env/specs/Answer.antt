@@ -1,0 +1,34 @@
+-- What the answers of the code say.
+use Rattle.std.specs.Prelude.{◌≡◌, ℕ, List, map}
+use Rattle.std.specs.List.{IsDistinct}
+use Rattle.lf_core.specs.Term.{Path}
+use Rattle.lf_core.specs.Same.{same_path}
+use Rattle.lf_core.specs.declared.constant.ConstInfo.{ConstInfo}
+use Rattle.lf_core.specs.declared.constant.TaskKey.TheVariants.{Body}
+use Rattle.lf_env.specs.View as view
+use Rattle.lf_env.specs.View.{KnownBody, value, opaque, unresolved, lookup_of}
+use Rattle.lf_env.specs.declared.answer.Lookup.{Lookup}
+use Rattle.lf_env.specs.declared.answer.Lookup.TheVariants.{Found, Absent, NeedBody, NeedReal}
+use Rattle.lf_env.specs.declared.answer.BodyOf.{BodyOf}
+use Rattle.lf_env.specs.declared.answer.BodyOf.TheVariants.{Value, Opaque, NeedBody as AfterBody}
+
+-- No two of the constants have one name.
+abbrev pub DistinctNames : List ConstInfo → Type 0
+DistinctNames cs = IsDistinct same_path (map (λ c. c.name) cs)
+
+abbrev pub told : Lookup → view.Lookup
+told (Found c) = view.found c.now
+told Absent = view.absent
+told (NeedBody p) = view.need_body p
+told NeedReal = view.need_real
+
+-- The view knows a constant of this name.
+abbrev pub IsKnown : view.View → Path → Type 0
+IsKnown V n = (c : ConstInfo) × (lookup_of V n ≡ view.found c)
+
+-- The code's answer is this body, but for the height of a value.
+abbrev pub Shows : BodyOf → KnownBody → Type 0
+Shows (Value v) (value w height) = v.now ≡ w
+Shows Opaque opaque = Unit {0}
+Shows (AfterBody p) (unresolved (Body q)) = p ≡ q
+Shows _ _ = ⊥

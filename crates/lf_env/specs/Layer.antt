@@ -1,0 +1,17 @@
+-- The entries of a shared table that count, and those of several tables in turn.
+use Rattle.std.specs.Prelude.{ℕ, Bool, true, Option, Some, None, List, [], ◌∷◌, ◌++◌}
+use Rattle.lf_core.specs.Term.{Path}
+use Rattle.lf_core.specs.Same.{same_path}
+use Rattle.lf_env.specs.View.{Entry, stands_before}
+
+-- Where there is a limit, only what stands before it counts.
+abbrev pub is_within : Option ℕ → Entry → Bool
+is_within None e = true
+is_within (Some limit) e = stands_before limit e.position
+
+abbrev pub entries_of : List (List Entry) → List Entry
+entries_of [] = []
+entries_of (es ∷ ess) = es ++ entries_of ess
+
+abbrev pub has_name : Path → Entry → Bool
+has_name n e = same_path e.info.name n
