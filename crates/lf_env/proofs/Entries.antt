@@ -1,6 +1,6 @@
 -- Lists of entries: what counts of them, what is found in them, names that differ.
-use Rattle.std.specs.Prelude.{◌≡◌, ℕ, zero, suc, ◌+◌, ◌≤◌, Bool, true, false, ◌&&◌, ◌||◌, not, cond, nat_eq, nat_lt, min, List, [], ◌∷◌, ◌++◌, length, take, filter, map, slice_get, Option, Some, None}
-use Rattle.std.proofs.Common.{refl, sym, ◌∙◌, ap, subst, arith, append_assoc, append-nil}
+use Rattle.std.specs.Prelude.{◌≡◌, ℕ, zero, suc, ◌+◌, ◌-◌, ◌≤◌, Bool, true, false, ◌&&◌, ◌||◌, not, cond, nat_eq, nat_lt, min, List, [], ◌∷◌, ◌++◌, length, take, filter, map, slice_get, Option, Some, None}
+use Rattle.std.proofs.Common.{refl, sym, ◌∙◌, ap, subst, arith, append_assoc, append-nil, get_or}
 use Rattle.std.specs.List.{IsDistinct, AllByRecursion, list_any, fold}
 use Rattle.std.specs.Cmp.{IsEquivalence}
 use Rattle.std.proofs.lemmas.Bool.Decides.{nat_tests}
@@ -11,6 +11,7 @@ use Rattle.lf_core.specs.Same.{same_path}
 use Rattle.lf_core.specs.declared.constant.ConstInfo.{ConstInfo}
 use Rattle.lf_env.specs.View.{Entry, base_position, stands_before, find_entry, placed_from, base_entries, parent_of, last_of}
 use Rattle.lf_env.specs.Names.{same_entry, entry_equivalence, path_equivalence}
+use Rattle.lf_env.specs.Answer.{DistinctNames}
 use Rattle.lf_env.specs.Layer.{is_within, entries_of, has_name}
 
 -- Parts of a test that holds or fails.
@@ -224,3 +225,149 @@ pub nearer_limit : (limit other near : ℕ) (l : Option ℕ) (own es ks : List E
 nearer_limit limit other near l own es ks n some same is =
     ap (λ m. filter (is_within (Some m)) ks) n ∙ ap (filter (is_within (Some (min limit other)))) same ∙ filter_nearer limit other es
         ∙ ap (filter (λ e. stands_before limit e.position)) (ap (λ m. filter (is_within m) es) (sym some) ∙ is)
+
+-- ---- Lists in turn
+
+first_step : (b : Bool) (d e : Entry) (rest more : Option Entry) → (Some e ≡ rest → Some e ≡ more) → Some e ≡ cond b (Some d) rest → Some e ≡ cond b (Some d) more
+first_step true d e rest more r h = h
+first_step false d e rest more r h = r h
+
+pub found_first : (xs ys : List Entry) (n : Path) (e : Entry) → Some e ≡ find_entry xs n → Some e ≡ find_entry (xs ++ ys) n
+found_first [] ys n e h = cc
+found_first (x ∷ xs) ys n e h = first_step (has_name n x) x e (find_entry xs n) (find_entry (xs ++ ys) n) (found_first xs ys n e) h
+
+later_step : (b : Bool) (d : Entry) (rest more last : Option Entry) → (None ≡ rest → more ≡ last) → None ≡ cond b (Some d) rest → cond b (Some d) more ≡ last
+later_step true d rest more last r h = cc
+later_step false d rest more last r h = r h
+
+pub found_later : (xs ys : List Entry) (n : Path) → None ≡ find_entry xs n → find_entry (xs ++ ys) n ≡ find_entry ys n
+found_later [] ys n h = refl
+found_later (x ∷ xs) ys n h = later_step (has_name n x) x (find_entry xs n) (find_entry (xs ++ ys) n) (find_entry ys n) (found_later xs ys n) h
+
+place_step : (b : Bool) (v w : ℕ × ℕ) (rest more : Option (ℕ × ℕ)) → (Some w ≡ rest → Some w ≡ more) → Some w ≡ cond b (Some v) rest → Some w ≡ cond b (Some v) more
+place_step true v w rest more r h = h
+place_step false v w rest more r h = r h
+
+pub placed_first : (k : ℕ) (xs ys : List Entry) (n : Path) (v : ℕ × ℕ) → Some v ≡ placed_from k xs n → Some v ≡ placed_from k (xs ++ ys) n
+placed_first k [] ys n v h = cc
+placed_first k (x ∷ xs) ys n v h =
+    place_step (has_name n x) (x.position, k) v (placed_from (suc k) xs n) (placed_from (suc k) (xs ++ ys) n) (placed_first (suc k) xs ys n v) h
+
+later_place_step : (b : Bool) (v : ℕ × ℕ) (rest more last : Option (ℕ × ℕ)) → (None ≡ rest → more ≡ last) → None ≡ cond b (Some v) rest → cond b (Some v) more ≡ last
+later_place_step true v rest more last r h = cc
+later_place_step false v rest more last r h = r h
+
+pub placed_later : (k : ℕ) (xs ys : List Entry) (n : Path) → None ≡ placed_from k xs n → placed_from k (xs ++ ys) n ≡ placed_from (k + length xs) ys n
+placed_later k [] ys n h = let same : k ≡ k + 0 = omega arith in ap (λ j. placed_from j ys n) same
+placed_later k (x ∷ xs) ys n h =
+    let same : suc k + length xs ≡ k + suc (length xs) = omega arith in
+    later_place_step (has_name n x) (x.position, k) (placed_from (suc k) xs n) (placed_from (suc k) (xs ++ ys) n) (placed_from (k + suc (length xs)) ys n)
+        (λ r. placed_later (suc k) xs ys n r ∙ ap (λ j. placed_from j ys n) same) h
+
+pub entries_of-both : (xs ys : List (List Entry)) → entries_of (xs ++ ys) ≡ entries_of xs ++ entries_of ys
+entries_of-both [] ys = refl
+entries_of-both (x ∷ xs) ys = ap (λ l. x ++ l) (entries_of-both xs ys) ∙ sym (append_assoc x (entries_of xs) (entries_of ys))
+
+-- ---- Names that differ
+
+pub IsDistinct-later : (xs ys : List Entry) → IsDistinct same_entry (xs ++ ys) → IsDistinct same_entry ys
+IsDistinct-later [] ys d = d
+IsDistinct-later (x ∷ xs) ys d = IsDistinct-later xs ys (IsDistinct-tail same_entry x (xs ++ ys) d)
+
+kept_step : (b : Bool) (e d : Entry) (xs : List Entry) → same_entry e d ≡ false → AllByRecursion (λ d. same_entry e d ≡ false) xs
+    → AllByRecursion (λ d. same_entry e d ≡ false) (cond b (d ∷ xs) xs)
+kept_step true e d xs h a = (h, a)
+kept_step false e d xs h a = a
+
+kept_apart : (p : Entry → Bool) (e : Entry) (es : List Entry) → AllByRecursion (λ d. same_entry e d ≡ false) es → AllByRecursion (λ d. same_entry e d ≡ false) (filter p es)
+kept_apart p e [] a = tt
+kept_apart p e (d ∷ es) a = kept_step (p d) e d (filter p es) a.0 (kept_apart p e es a.1)
+
+distinct_step : (b : Bool) (e : Entry) (xs : List Entry) → AllByRecursion (λ d. same_entry e d ≡ false) xs → IsDistinct same_entry xs
+    → IsDistinct same_entry (cond b (e ∷ xs) xs)
+distinct_step true e xs a d = IsDistinct-cons same_entry e xs a d
+distinct_step false e xs a d = d
+
+pub IsDistinct-filter : (p : Entry → Bool) (es : List Entry) → IsDistinct same_entry es → IsDistinct same_entry (filter p es)
+IsDistinct-filter p [] d = d
+IsDistinct-filter p (e ∷ es) d =
+    distinct_step (p e) e (filter p es) (kept_apart p e es (IsDistinct-head same_entry e es d)) (IsDistinct-filter p es (IsDistinct-tail same_entry e es d))
+
+apart_from : (e d : Entry) (xs ys : List Entry) → AllByRecursion (λ x. same_entry e x ≡ false) (xs ++ d ∷ ys) → same_entry d e ≡ false
+apart_from e d [] ys a = entry_equivalence.symm d e ∙ a.0
+apart_from e d (x ∷ xs) ys a = apart_from e d xs ys a.1
+
+fresh : (xs : List Entry) (y : Entry) (ys : List Entry) → IsDistinct same_entry (xs ++ y ∷ ys) → list_any (same_entry y) xs ≡ false
+fresh [] y ys d = refl
+fresh (x ∷ xs) y ys d =
+    ap (λ b. b || list_any (same_entry y) xs) (apart_from x y xs ys (IsDistinct-head same_entry x (xs ++ y ∷ ys) d))
+        ∙ fresh xs y ys (IsDistinct-tail same_entry x (xs ++ y ∷ ys) d)
+
+-- Entries whose names differ are put in as they are.
+pub insert_all_distinct : (xs ys : List Entry) → IsDistinct same_entry (xs ++ ys) → insert_all same_entry xs ys ≡ xs ++ ys
+insert_all_distinct xs [] d = sym (append-nil xs)
+insert_all_distinct xs (y ∷ ys) d =
+    let same : (xs ++ y ∷ []) ++ ys ≡ xs ++ y ∷ ys = append_assoc xs (y ∷ []) ys in
+    let put : insert_key same_entry xs y ≡ xs ++ y ∷ [] = ap (λ b. cond b xs (xs ++ y ∷ [])) (fresh xs y ys d) in
+    ap (λ l. insert_all same_entry l ys) put
+        ∙ insert_all_distinct (xs ++ y ∷ []) ys (subst (IsDistinct same_entry) (sym same) d) ∙ same
+
+distinct_nil : IsDistinct same_entry []
+unfolding IsDistinct
+distinct_nil = tt
+
+base_apart : (c : ConstInfo) (cs : List ConstInfo) → AllByRecursion (λ n. same_path c.name n ≡ false) (map (λ d. d.name) cs)
+    → AllByRecursion (λ d. same_entry (record { info = c; position = base_position }) d ≡ false) (base_entries cs)
+base_apart c [] a = tt
+base_apart c (d ∷ cs) a = (a.0, base_apart c cs a.1)
+
+pub IsDistinct-base : (cs : List ConstInfo) → DistinctNames cs → IsDistinct same_entry (base_entries cs)
+IsDistinct-base [] d = distinct_nil
+IsDistinct-base (c ∷ cs) d =
+    IsDistinct-cons same_entry (record { info = c; position = base_position }) (base_entries cs)
+        (base_apart c cs (IsDistinct-head same_path c.name (map (λ c. c.name) cs) d))
+        (IsDistinct-base cs (IsDistinct-tail same_path c.name (map (λ c. c.name) cs) d))
+
+pub length-base : (cs : List ConstInfo) → length (base_entries cs) ≡ length cs
+length-base [] = refl
+length-base (c ∷ cs) = ap suc (length-base cs)
+
+pub base_entries-append : (cs : List ConstInfo) (c : ConstInfo) → base_entries (cs ++ c ∷ []) ≡ base_entries cs ++ record { info = c; position = base_position } ∷ []
+base_entries-append [] c = refl
+base_entries-append (d ∷ cs) c = ap (λ l. record { info = d; position = base_position } ∷ l) (base_entries-append cs c)
+
+-- A name without a place is no entry's.
+free_step : (b s : Bool) (v : ℕ × ℕ) (rest : Option (ℕ × ℕ)) (others : Bool) → s ≡ b → (None ≡ rest → others ≡ false) → None ≡ cond b (Some v) rest → (s || others) ≡ false
+free_step true s v rest others e r h = cc
+free_step false s v rest others e r h = ap (λ x. x || others) e ∙ r h
+
+pub free : (k : ℕ) (es : List Entry) (e : Entry) → None ≡ placed_from k es e.info.name → list_any (same_entry e) es ≡ false
+free k [] e h = refl
+free k (d ∷ es) e h =
+    free_step (has_name e.info.name d) (same_entry e d) (d.position, k) (placed_from (suc k) es e.info.name) (list_any (same_entry e) es)
+        (entry_equivalence.symm e d) (free (suc k) es e) h
+
+pub IsDistinct-pushed : (es : List Entry) (e : Entry) → IsDistinct same_entry es → None ≡ placed_from 0 es e.info.name → IsDistinct same_entry (es ++ e ∷ [])
+IsDistinct-pushed es e d h = IsDistinct-push entry_equivalence es e d (free 0 es e h)
+
+-- ---- The parts of a name
+
+parent_take : (n : Path) (k : ℕ) → length n ≡ suc k → take k n ≡ parent_of n
+parent_take [] k h = absurd (omega arith)
+parent_take (x ∷ []) zero h = refl
+parent_take (x ∷ []) (suc k) h = absurd (omega arith)
+parent_take (x ∷ y ∷ n) zero h = absurd (omega arith)
+parent_take (x ∷ y ∷ n) (suc k) h = ap (λ l. x ∷ l) (parent_take (y ∷ n) k (omega arith))
+
+last_place : (n : Path) (k : ℕ) (d : List ℕ) → length n ≡ suc k → get_or n k d ≡ last_of n
+last_place [] k d h = absurd (omega arith)
+last_place (x ∷ []) zero d h = refl
+last_place (x ∷ []) (suc k) d h = absurd (omega arith)
+last_place (x ∷ y ∷ n) zero d h = absurd (omega arith)
+last_place (x ∷ y ∷ n) (suc k) d h = last_place (y ∷ n) k d (omega arith)
+
+pub parent_of-take : (n : Path) → 1 ≤ length n → take (length n - 1) n ≡ parent_of n
+parent_of-take n h = parent_take n (length n - 1) (omega arith)
+
+pub last_of-place : (n : Path) (d : List ℕ) → 1 ≤ length n → get_or n (length n - 1) d ≡ last_of n
+last_of-place n d h = last_place n (length n - 1) d (omega arith)

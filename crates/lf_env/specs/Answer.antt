@@ -1,5 +1,5 @@
 -- What the answers of the code say.
-use Rattle.std.specs.Prelude.{◌≡◌, ℕ, List, map}
+use Rattle.std.specs.Prelude.{◌≡◌, ℕ, Bool, false, ◌&&◌, Option, Some, None, List, [], map}
 use Rattle.std.specs.List.{IsDistinct}
 use Rattle.lf_core.specs.Term.{Path}
 use Rattle.lf_core.specs.Same.{same_path}
@@ -32,3 +32,14 @@ Shows (Value v) (value w height) = v.now ≡ w
 Shows Opaque opaque = Unit {0}
 Shows (AfterBody p) (unresolved (Body q)) = p ≡ q
 Shows _ _ = ⊥
+
+-- A view with no branch and no kept answer, as the code makes them.
+pub record IsPlain (V : view.View) : Type 0 where
+  pub no_branch : V.branches ≡ []
+  pub no_answer : V.answers ≡ []
+  pub for_all : V.for_base ≡ false
+
+-- Whether the parent, if it is there, is to have a realized child with this last part.
+abbrev pub fits_parent : ℕ → List ℕ → Option view.Entry → Bool
+fits_parent position last None = false
+fits_parent position last (Some parent) = view.fits_suffix last parent.info.kind && view.stands_before position parent.position

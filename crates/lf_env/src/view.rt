@@ -1,14 +1,15 @@
 ghost use Rattle.std.specs.Prelude.{◌≡◌, ◌+◌, ◌≤◌, ◌++◌, ◌∷◌, [], None, length, filter, if◌then◌else◌, IfOk, OnOk, OnErr};
 ghost use Rattle.std.specs.List.{IsDistinct};
 ghost use Rattle.std.specs.Option.{option_copied};
-ghost use Rattle.lf_env.specs.View.{Entry, find_entry, placed_from, placed_of, lookup_of, body_of, fits_suffix as fits, by_suffix, need_real, absent, base_view, pushed, view_at, stands_before as is_before};
+ghost use Rattle.lf_env.specs.View.{Entry, find_entry, placed_from, placed_of, lookup_of, body_of, fits_suffix as fits, is_definition, known_body, opaque, by_entry, need_real, absent, base_view, base_entries, pushed, view_at, stands_before as is_before};
+ghost use Rattle.indexmap.specs.IndexSet.{insert_all};
 ghost use Rattle.lf_env.specs.Names.{same_entry};
 ghost use Rattle.lf_env.specs.Layer.{entries_of};
-ghost use Rattle.lf_env.specs.Answer.{DistinctNames, IsKnown, Shows, told};
+ghost use Rattle.lf_env.specs.Answer.{DistinctNames, IsKnown, IsPlain, Shows, fits_parent as parent_fits, told};
 
 use crate::answer::{BodyOf, Lookup};
 use crate::entry::SharedEntry;
-use crate::layer::{Layer, stands_before};
+use crate::layer::{Layer, Table, stands_before};
 use indexmap::IndexSet;
 use lf_core::{ConstInfo, ConstKind, Name, NoMemory, Word};
 use std::alloc::Global;
@@ -26,13 +27,11 @@ pub struct View {
 }
 
 impl Model for View {
-    ghost use Rattle.std.specs.Prelude.{◌≤◌, [], length, false};
+    ghost use Rattle.std.specs.Prelude.{[], false};
     ghost use Rattle.std.specs.Coded.{codes};
-    ghost use Rattle.std.specs.List.{IsDistinct};
     ghost use Rattle.lf_core.specs.Codes.{coded_term};
     ghost use Rattle.lf_env.specs.View.{View as ViewValue};
-    ghost use Rattle.lf_env.specs.Names.{same_entry};
-    ghost use Rattle.lf_env.specs.Layer.{entries_of};
+    ghost use Rattle.lf_env.specs.Layer.{AreSound, entries_of};
 
     ghost Value = { ViewValue };
 
@@ -40,7 +39,7 @@ impl Model for View {
 
     ghost view = { λ v. record { entries = entries_of v.layers.items; branches = []; answers = []; position = v.position; for_base = false } };
 
-    ghost invariant = { λ v. IsDistinct same_entry (entries_of v.layers.items) × (length (entries_of v.layers.items) ≤ v.most) };
+    ghost invariant = { λ v. AreSound (entries_of v.layers.items) v.most };
 }
 
 /// The entry of the name with these parts.
@@ -81,6 +80,31 @@ fn fits_suffix(last: &Word, kind: ConstKind) -> bool
     }
 }
 
+/// Whether the parent, if it is there, is to have a realized child with this last part.
+fn fits_parent(position: u32, last: &Word, parent: Option<&SharedEntry>) -> bool
+    ensures { result ≡ parent_fits position last.now (option_copied parent.entry) }
+{
+    match parent {
+        Some(entry) => {
+            fits_suffix(last, entry.info().kind) && stands_before(position, entry.position())
+        }
+        None => false,
+    }
+}
+
+/// What the constant unfolds to.
+fn value_of(info: &ConstInfo) -> BodyOf<'_>
+    ensures { Shows result (if is_definition info.now.kind then known_body info.now.value info.now.height else opaque) }
+{
+    match info.kind {
+        ConstKind::Def => match &info.value {
+            Some(value) => BodyOf::Value(value),
+            None => BodyOf::Opaque,
+        },
+        _ => BodyOf::Opaque,
+    }
+}
+
 /// How many of the layers stay as they are when an entry is pushed. The later ones are joined to one layer with it, so
 /// that each layer is longer than all later ones, and there are few.
 fn lasting(layers: &[Layer]) -> usize
@@ -118,6 +142,38 @@ fn share(alloc: Global, layers: &[Layer]) -> Result<Vec<Layer>, NoMemory>
     Ok(all)
 }
 
+/// Layers of the entries of these layers and one more.
+fn extended(alloc: Global, layers: &[Layer], last: SharedEntry) -> Result<Vec<Layer>, NoMemory>
+    requires { IsDistinct same_entry (entries_of layers.now ++ last ∷ []) }
+    ensures { IfOk result (λ all. entries_of all.items ≡ entries_of layers.now ++ last ∷ []) }
+{
+    let (kept, later) = layers.split_at(lasting(layers));
+    let joined = join(alloc, later, last)?;
+    let mut all = share(alloc, kept)?;
+    all.push(joined)?;
+    Ok(all)
+}
+
+/// A table of the constants at the position of the base.
+fn base_table(alloc: Global, base: Vec<ConstInfo>) -> Result<Table, NoMemory>
+    ensures { IfOk result (λ t. t.keys ≡ insert_all same_entry [] (base_entries base.items)) }
+{
+    let mut table = IndexSet::new(alloc);
+    for info in base {
+        table.insert(SharedEntry::new(alloc, info, BASE)?)?;
+    }
+    Ok(table)
+}
+
+/// A layer of the constants at the position of the base.
+fn base_layer(alloc: Global, base: Vec<ConstInfo>) -> Result<Layer, NoMemory>
+    requires { DistinctNames base.items }
+    ensures { IfOk result (λ l. l ≡ base_entries base.items) }
+{
+    let table = base_table(alloc, base)?;
+    Layer::new(alloc, table)
+}
+
 fn one(alloc: Global, layer: Layer) -> Result<Vec<Layer>, NoMemory>
     ensures { IfOk result (λ all. all.items ≡ layer ∷ []) }
 {
@@ -144,13 +200,9 @@ impl View {
         ensures { IfOk result (λ v. v ≡ base_view base.items) }
     {
         let most = base.len();
-        let mut table = IndexSet::new(alloc);
-        for info in base {
-            table.insert(SharedEntry::new(alloc, info, BASE)?)?;
-        }
-        let layer = Layer::new(alloc, table)?;
+        let layers = one(alloc, base_layer(alloc, base)?)?;
         Ok(View {
-            layers: one(alloc, layer)?,
+            layers,
             position: 0,
             most,
         })
@@ -164,24 +216,19 @@ impl View {
     }
 
     fn find(&self, words: &[Word]) -> Option<&SharedEntry>
-        ensures { option_copied result ≡ find_entry self.now.entries words.now }
+        ensures entry { option_copied result ≡ find_entry self.now.entries words.now }
+        ensures plain { IsPlain self.now }
     {
         find_in(self.layers.as_slice(), words)
     }
 
-    /// Whether the name is to be realized where it has no entry.
+    /// Whether the name, which has no entry, is to be realized.
     fn is_realizable(&self, words: &[Word]) -> bool
-        ensures { by_suffix self.now words.now ≡ (if result then need_real else absent) }
+        ensures { by_entry self.now words.now None ≡ (if result then need_real else absent) }
     {
         match words {
             [] => false,
-            [front @ .., last] => match self.find(front) {
-                Some(parent) => {
-                    fits_suffix(last, parent.info().kind)
-                        && stands_before(self.position, parent.position())
-                }
-                None => false,
-            },
+            [front @ .., last] => fits_parent(self.position, last, self.find(front)),
         }
     }
 
@@ -215,10 +262,7 @@ impl View {
         ensures { Shows result (body_of self.now name.now) }
     {
         match self.find(name.parts()) {
-            Some(entry) => match (entry.info().kind, &entry.info().value) {
-                (ConstKind::Def, Some(value)) => BodyOf::Value(value),
-                _ => BodyOf::Opaque,
-            },
+            Some(entry) => value_of(entry.info()),
             None => BodyOf::Opaque,
         }
     }
@@ -231,14 +275,14 @@ impl View {
         ensures err { OnErr result (self.new ≡ self.old) }
     {
         let alloc = *self.layers.allocator();
-        let most = self.most.checked_add(1).ok_or(NoMemory)?;
-        let kept = lasting(self.layers.as_slice());
+        let most = self.most;
+        if most == usize::MAX {
+            return Err(NoMemory);
+        }
         let entry = SharedEntry::new(alloc, info, position)?;
-        let last = join(alloc, &self.layers.as_slice()[kept..], entry)?;
-        let mut layers = share(alloc, &self.layers.as_slice()[..kept])?;
-        layers.push(last)?;
+        let layers = extended(alloc, self.layers.as_slice(), entry)?;
         self.layers = layers;
-        self.most = most;
+        self.most = most + 1;
         Ok(())
     }
 
@@ -246,8 +290,9 @@ impl View {
     pub fn at(&self, alloc: Global, position: u32) -> Result<View, NoMemory>
         ensures { IfOk result (λ v. v ≡ view_at self.now position) }
     {
+        let layers = before(alloc, self.layers.as_slice(), position)?;
         Ok(View {
-            layers: before(alloc, self.layers.as_slice(), position)?,
+            layers,
             position,
             most: self.most,
         })
