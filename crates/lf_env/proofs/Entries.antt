@@ -1,16 +1,16 @@
 -- Lists of entries: what counts of them, what is found in them, names that differ.
-use Rattle.std.specs.Prelude.{◌≡◌, ℕ, zero, suc, ◌+◌, ◌-◌, ◌≤◌, Bool, true, false, ◌&&◌, ◌||◌, not, cond, nat_eq, nat_lt, min, List, [], ◌∷◌, ◌++◌, length, take, filter, map, slice_get, Option, Some, None}
+use Rattle.std.specs.Prelude.{◌≡◌, ◌≢◌, ℕ, zero, suc, ◌+◌, ◌-◌, ◌≤◌, Bool, true, false, ◌&&◌, ◌||◌, not, cond, nat_eq, nat_lt, min, List, [], ◌∷◌, ◌++◌, length, take, filter, slice_get, Option, Some, None}
 use Rattle.std.proofs.Common.{refl, sym, ◌∙◌, ap, subst, arith, append_assoc, append-nil, get_or}
 use Rattle.std.specs.List.{IsDistinct, AllByRecursion, list_any, fold}
 use Rattle.std.specs.Cmp.{IsEquivalence}
 use Rattle.std.proofs.lemmas.Bool.Decides.{nat_tests}
-use Rattle.std.proofs.lemmas.Map.Keys.{IsDistinct-head, IsDistinct-tail, IsDistinct-cons, IsDistinct-push}
+use Rattle.std.proofs.lemmas.Map.Keys.{IsDistinct-head, IsDistinct-tail, IsDistinct-cons, IsDistinct-push, IsDistinct-from_apart}
 use Rattle.indexmap.specs.IndexSet.{insert_key, insert_all}
 use Rattle.lf_core.specs.Term.{Path}
 use Rattle.lf_core.specs.Same.{same_path}
 use Rattle.lf_core.specs.declared.constant.ConstInfo.{ConstInfo}
 use Rattle.lf_env.specs.View.{Entry, base_position, stands_before, find_entry, placed_from, base_entries, parent_of, last_of}
-use Rattle.lf_env.specs.Names.{same_entry, entry_equivalence, path_equivalence}
+use Rattle.lf_env.specs.Names.{same_entry, entry_equivalence, path_equivalence, path_is}
 use Rattle.lf_env.specs.Answer.{DistinctNames}
 use Rattle.lf_env.specs.Layer.{is_within, entries_of, has_name}
 
@@ -316,17 +316,33 @@ distinct_nil : IsDistinct same_entry []
 unfolding IsDistinct
 distinct_nil = tt
 
-base_apart : (c : ConstInfo) (cs : List ConstInfo) → AllByRecursion (λ n. same_path c.name n ≡ false) (map (λ d. d.name) cs)
+same_name : ConstInfo → ConstInfo → Bool
+same_name c d = same_path c.name d.name
+
+differ_step : (x y : Path) (b : Bool) → same_path x y ≡ b → x ≢ y → b ≡ false
+differ_step x y true h ne = absurd (ne (path_is x y h))
+differ_step x y false h ne = refl
+
+names_apart : (cs : List ConstInfo) → DistinctNames cs → IsDistinct same_name cs
+unfolding same_name
+names_apart cs d =
+    IsDistinct-from_apart same_name cs (λ i j c before within.
+        differ_step (get_or cs i c).name (get_or cs j c).name (same_path (get_or cs i c).name (get_or cs j c).name) refl (d i j c before within))
+
+base_apart : (c : ConstInfo) (cs : List ConstInfo) → AllByRecursion (λ d. same_name c d ≡ false) cs
     → AllByRecursion (λ d. same_entry (record { info = c; position = base_position }) d ≡ false) (base_entries cs)
+unfolding same_name
 base_apart c [] a = tt
 base_apart c (d ∷ cs) a = (a.0, base_apart c cs a.1)
 
-pub IsDistinct-base : (cs : List ConstInfo) → DistinctNames cs → IsDistinct same_entry (base_entries cs)
-IsDistinct-base [] d = distinct_nil
-IsDistinct-base (c ∷ cs) d =
+base_distinct : (cs : List ConstInfo) → IsDistinct same_name cs → IsDistinct same_entry (base_entries cs)
+base_distinct [] d = distinct_nil
+base_distinct (c ∷ cs) d =
     IsDistinct-cons same_entry (record { info = c; position = base_position }) (base_entries cs)
-        (base_apart c cs (IsDistinct-head same_path c.name (map (λ c. c.name) cs) d))
-        (IsDistinct-base cs (IsDistinct-tail same_path c.name (map (λ c. c.name) cs) d))
+        (base_apart c cs (IsDistinct-head same_name c cs d)) (base_distinct cs (IsDistinct-tail same_name c cs d))
+
+pub IsDistinct-base : (cs : List ConstInfo) → DistinctNames cs → IsDistinct same_entry (base_entries cs)
+IsDistinct-base cs d = base_distinct cs (names_apart cs d)
 
 pub length-base : (cs : List ConstInfo) → length (base_entries cs) ≡ length cs
 length-base [] = refl

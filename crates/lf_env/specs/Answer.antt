@@ -1,8 +1,6 @@
 -- What the answers of the code say.
-use Rattle.std.specs.Prelude.{◌≡◌, ℕ, Bool, false, ◌&&◌, Option, Some, None, List, [], map}
-use Rattle.std.specs.List.{IsDistinct}
+use Rattle.std.specs.Prelude.{◌≡◌, ◌≢◌, ℕ, Bool, false, ◌&&◌, Option, Some, None, List, [], AllPairs}
 use Rattle.lf_core.specs.Term.{Path}
-use Rattle.lf_core.specs.Same.{same_path}
 use Rattle.lf_core.specs.declared.constant.ConstInfo.{ConstInfo}
 use Rattle.lf_core.specs.declared.constant.TaskKey.TheVariants.{Body}
 use Rattle.lf_env.specs.View as view
@@ -14,7 +12,7 @@ use Rattle.lf_env.specs.declared.answer.BodyOf.TheVariants.{Value, Opaque, NeedB
 
 -- No two of the constants have one name.
 abbrev pub DistinctNames : List ConstInfo → Type 0
-DistinctNames cs = IsDistinct same_path (map (λ c. c.name) cs)
+DistinctNames cs = AllPairs (λ c d. c.name ≢ d.name) cs
 
 abbrev pub told : Lookup → view.Lookup
 told (Found c) = view.found c.now

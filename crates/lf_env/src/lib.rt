@@ -8,3 +8,6 @@ mod view;
 
 pub use answer::{BodyOf, Lookup};
 pub use view::{BASE, View};
+
+#[cfg(test)]
+mod tests;
