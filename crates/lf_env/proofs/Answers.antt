@@ -1,11 +1,9 @@
 -- What a view with no branch and no kept answer says of a name.
 use Rattle.std.specs.Prelude.{◌≡◌, ℕ, Bool, true, false, ◌&&◌, ◌||◌, cond, if◌then◌else◌, List, [], Option, Some, None, codes, bytes_eq}
-use Rattle.std.proofs.Common.{refl, sym, ◌∙◌, ap, subst}
-use Rattle.lf_core.specs.Term.{Path, Term}
-use Rattle.lf_core.specs.declared.constant.ConstInfo.{ConstInfo}
+use Rattle.std.proofs.Common.{refl, sym, ◌∙◌, ap}
+use Rattle.lf_core.specs.Term.{Path}
 use Rattle.lf_core.specs.declared.constant.ConstKind.{ConstKind}
-use Rattle.lf_env.specs.View as view
-use Rattle.lf_env.specs.View.{View, Entry, find_entry, find_branch, find_answer, branch_over, parent_of, last_of, is_suffix, fits_suffix, is_definition, is_constructor, stands_before, by_entry, by_branch, by_suffix, by_parent, by_answer, need_real, absent, found, lookup_of, body_of, found_body, body_in, definition_body, known_body, opaque}
+use Rattle.lf_env.specs.View.{View, Entry, find_entry, find_branch, parent_of, last_of, is_suffix, fits_suffix, is_definition, is_constructor, stands_before, by_entry, by_parent, need_real, absent, body_of, found_body, definition_body, known_body, opaque}
 use Rattle.lf_env.specs.Answer.{IsPlain, fits_parent}
 
 -- Only a suffix fits.
@@ -19,7 +17,7 @@ suffix_fits false false false false e f h = refl
 no_suffix : (last : List ℕ) (kind : ConstKind) → is_suffix last ≡ false → fits_suffix last kind ≡ false
 no_suffix last kind h =
     suffix_fits (bytes_eq last (codes "eq_1")) (bytes_eq last (codes "eq_def")) (bytes_eq last (codes "inj")) (bytes_eq last (codes "injEq"))
-        (is_definition kind) (is_constructor kind) h
+    (is_definition kind) (is_constructor kind) h
 
 module _ (entries : List Entry) (position : ℕ) (n : Path) where
   abbrev pub plain : View
@@ -42,4 +40,4 @@ module _ (V : View) (n : Path) (e : Entry) where
       → body_of V n ≡ (if is_definition e.info.kind then known_body e.info.value e.info.height else opaque)
   entry_body plain h =
       ap (λ r. found_body V n (by_entry V n r)) h
-          ∙ ap (λ bs. if is_definition e.info.kind then definition_body e.info (find_branch bs e.info.name) else opaque) plain.no_branch
+      ∙ ap (λ bs. if is_definition e.info.kind then definition_body e.info (find_branch bs e.info.name) else opaque) plain.no_branch

@@ -1,8 +1,7 @@
 -- Lists of entries: what counts of them, what is found in them, names that differ.
-use Rattle.std.specs.Prelude.{◌≡◌, ◌≢◌, ℕ, zero, suc, ◌+◌, ◌-◌, ◌≤◌, Bool, true, false, ◌&&◌, ◌||◌, not, cond, nat_eq, nat_lt, min, List, [], ◌∷◌, ◌++◌, length, take, filter, slice_get, Option, Some, None}
+use Rattle.std.specs.Prelude.{◌≡◌, ◌≢◌, ℕ, zero, suc, ◌+◌, ◌-◌, ◌≤◌, Bool, true, false, ◌&&◌, ◌||◌, cond, nat_eq, nat_lt, min, List, [], ◌∷◌, ◌++◌, length, take, filter, slice_get, Option, Some, None}
 use Rattle.std.proofs.Common.{refl, sym, ◌∙◌, ap, subst, arith, append_assoc, append-nil, get_or}
-use Rattle.std.specs.List.{IsDistinct, AllByRecursion, list_any, fold}
-use Rattle.std.specs.Cmp.{IsEquivalence}
+use Rattle.std.specs.List.{IsDistinct, AllByRecursion, list_any}
 use Rattle.std.proofs.lemmas.Bool.Decides.{nat_tests}
 use Rattle.std.proofs.lemmas.Map.Keys.{IsDistinct-head, IsDistinct-tail, IsDistinct-cons, IsDistinct-push, IsDistinct-from_apart}
 use Rattle.indexmap.specs.IndexSet.{insert_key, insert_all}
@@ -83,7 +82,7 @@ pub absent_found : (p : Entry → Bool) (es : List Entry) (n : Path) → list_an
 absent_found p [] n h = refl
 absent_found p (e ∷ es) n h =
     absent_step p (p e) e (filter p es) n (or_left (has_name n e) (list_any (has_name n) es) h)
-        (absent_found p es n (or_right (has_name n e) (list_any (has_name n) es) h))
+    (absent_found p es n (or_right (has_name n e) (list_any (has_name n) es) h))
 
 absent_place_step : (b : Bool) (e : Entry) (xs : List Entry) (n : Path) (k : ℕ) → has_name n e ≡ false → ((j : ℕ) → None ≡ placed_from j xs n)
     → None ≡ placed_from k (cond b (e ∷ xs) xs) n
@@ -94,14 +93,14 @@ pub absent_placed : (p : Entry → Bool) (es : List Entry) (n : Path) → list_a
 absent_placed p [] n h k = refl
 absent_placed p (e ∷ es) n h k =
     absent_place_step (p e) e (filter p es) n k (or_left (has_name n e) (list_any (has_name n) es) h)
-        (absent_placed p es n (or_right (has_name n e) (list_any (has_name n) es) h))
+    (absent_placed p es n (or_right (has_name n e) (list_any (has_name n) es) h))
 
 -- No entry has a name that the entry in front of them has.
 others_apart : (e : Entry) (es : List Entry) (n : Path) → has_name n e ≡ true → AllByRecursion (λ d. same_entry e d ≡ false) es → list_any (has_name n) es ≡ false
 others_apart e [] n h a = refl
 others_apart e (d ∷ es) n h a =
     let apart : has_name n d ≡ false =
-            path_equivalence.symm d.info.name n ∙ sym (path_equivalence.congr e.info.name n d.info.name h) ∙ a.0 in
+    path_equivalence.symm d.info.name n ∙ sym (path_equivalence.congr e.info.name n d.info.name h) ∙ a.0 in
     ap (λ b. b || list_any (has_name n) es) apart ∙ others_apart e es n h a.1
 
 -- An entry behind one that differs from all behind it.
@@ -110,7 +109,7 @@ apart_at e d [] i n g h a = cc
 apart_at e d (c ∷ es) zero n g h a =
     let same : c ≡ d = cc in
     path_equivalence.symm e.info.name n ∙ sym (path_equivalence.congr d.info.name n e.info.name h) ∙ path_equivalence.symm d.info.name e.info.name
-        ∙ ap (λ (x : Entry). same_entry e x) (sym same) ∙ a.0
+    ∙ ap (λ (x : Entry). same_entry e x) (sym same) ∙ a.0
 apart_at e d (c ∷ es) (suc i) n g h a = apart_at e d es i n g h a.1
 
 module _ (p : Entry → Bool) (n : Path) where
@@ -129,10 +128,10 @@ module _ (p : Entry → Bool) (n : Path) where
       let same : c ≡ e = cc in
       let held : has_name n c ≡ true = ap (has_name n) same ∙ h in
       ap (λ (x : Entry). cond (p x) (Some x) None) (sym same)
-          ∙ found_head (p c) c (filter p es) held (absent_found p es n (others_apart c es n held (IsDistinct-head same_entry c es d)))
+      ∙ found_head (p c) c (filter p es) held (absent_found p es n (others_apart c es n held (IsDistinct-head same_entry c es d)))
   found_at (c ∷ es) (suc i) e d g h =
       found_at es i e (IsDistinct-tail same_entry c es d) g h
-          ∙ found_tail (p c) c (filter p es) (apart_at c e es i n g h (IsDistinct-head same_entry c es d))
+      ∙ found_tail (p c) c (filter p es) (apart_at c e es i n g h (IsDistinct-head same_entry c es d))
 
   placed_head : (b : Bool) (e : Entry) (xs : List Entry) (k : ℕ) → has_name n e ≡ true → ((j : ℕ) → None ≡ placed_from j xs n)
       → cond b (Some (e.position, k)) None ≡ placed_from k (cond b (e ∷ xs) xs) n
@@ -155,11 +154,11 @@ module _ (p : Entry → Bool) (n : Path) where
       let held : has_name n c ≡ true = ap (has_name n) same ∙ h in
       let start : k + 0 ≡ k = omega arith in
       ap (λ (x : Entry). cond (p x) (Some (x.position, k + 0)) None) (sym same)
-          ∙ ap (λ j. cond (p c) (Some (c.position, j)) None) start
-          ∙ placed_head (p c) c (filter p es) k held (absent_placed p es n (others_apart c es n held (IsDistinct-head same_entry c es d)))
+      ∙ ap (λ j. cond (p c) (Some (c.position, j)) None) start
+      ∙ placed_head (p c) c (filter p es) k held (absent_placed p es n (others_apart c es n held (IsDistinct-head same_entry c es d)))
   placed_at (c ∷ es) (suc i) e d g h k =
       placed_tail (p c) c (filter p es) (filter p (take i es)) (λ j. cond (p e) (Some (e.position, j)) None) k
-          (apart_at c e es i n g h (IsDistinct-head same_entry c es d)) (placed_at es i e (IsDistinct-tail same_entry c es d) g h)
+      (apart_at c e es i n g h (IsDistinct-head same_entry c es d)) (placed_at es i e (IsDistinct-tail same_entry c es d) g h)
 
 take_step : (b : Bool) (e : Entry) (xs ys : List Entry) → length xs ≤ length ys → length (cond b (e ∷ xs) xs) ≤ length (cond b (e ∷ ys) ys)
 take_step true e xs ys h = omega arith
@@ -191,13 +190,13 @@ module _ (p : Entry → Bool) (n : Path) {own es ks : List Entry} (is : filter p
     pub one_placed_in : (k m : ℕ) → m ≡ length (filter p (take i ks)) → true ≡ p e → Some (e.position, k + m) ≡ placed_from k own n
     one_placed_in k m count counts =
         ap (λ j. Some (e.position, k + j)) (count ∙ ap (λ l. length (filter p (take i l))) same)
-            ∙ ap (λ b. cond b (Some (e.position, k + length (filter p (take i es)))) None) counts
-            ∙ placed_at p n es i e apart at named k ∙ ap (λ l. placed_from k l n) is
+        ∙ ap (λ b. cond b (Some (e.position, k + length (filter p (take i es)))) None) counts
+        ∙ placed_at p n es i e apart at named k ∙ ap (λ l. placed_from k l n) is
 
     pub left_out_placed : (k : ℕ) → false ≡ p e → None ≡ placed_from k own n
     left_out_placed k counts =
         ap (λ b. cond b (Some (e.position, k + length (filter p (take i es)))) None) counts
-            ∙ placed_at p n es i e apart at named k ∙ ap (λ l. placed_from k l n) is
+        ∙ placed_at p n es i e apart at named k ∙ ap (λ l. placed_from k l n) is
 
     pub place_fits : (k m : ℕ) → k + length own ≤ 18446744073709551615 → m ≡ length (filter p (take i ks)) → k + m ≤ 18446744073709551615
     place_fits k m h count =
@@ -218,13 +217,13 @@ pub first_limit : (limit near : ℕ) (l : Option ℕ) (own es ks : List Entry) �
     → filter (is_within (Some near)) ks ≡ filter (λ e. stands_before limit e.position) own
 first_limit limit near l own es ks n none same is =
     ap (λ m. filter (is_within (Some m)) ks) n ∙ ap (filter (is_within (Some limit))) same ∙ filter_first limit es
-        ∙ ap (filter (λ e. stands_before limit e.position)) (ap (λ m. filter (is_within m) es) (sym none) ∙ is)
+    ∙ ap (filter (λ e. stands_before limit e.position)) (ap (λ m. filter (is_within m) es) (sym none) ∙ is)
 
 pub nearer_limit : (limit other near : ℕ) (l : Option ℕ) (own es ks : List Entry) → near ≡ min limit other → l ≡ Some other → ks ≡ es
     → filter (is_within l) es ≡ own → filter (is_within (Some near)) ks ≡ filter (λ e. stands_before limit e.position) own
 nearer_limit limit other near l own es ks n some same is =
     ap (λ m. filter (is_within (Some m)) ks) n ∙ ap (filter (is_within (Some (min limit other)))) same ∙ filter_nearer limit other es
-        ∙ ap (filter (λ e. stands_before limit e.position)) (ap (λ m. filter (is_within m) es) (sym some) ∙ is)
+    ∙ ap (filter (λ e. stands_before limit e.position)) (ap (λ m. filter (is_within m) es) (sym some) ∙ is)
 
 -- ---- Lists in turn
 
@@ -262,7 +261,7 @@ placed_later k [] ys n h = let same : k ≡ k + 0 = omega arith in ap (λ j. pla
 placed_later k (x ∷ xs) ys n h =
     let same : suc k + length xs ≡ k + suc (length xs) = omega arith in
     later_place_step (has_name n x) (x.position, k) (placed_from (suc k) xs n) (placed_from (suc k) (xs ++ ys) n) (placed_from (k + suc (length xs)) ys n)
-        (λ r. placed_later (suc k) xs ys n r ∙ ap (λ j. placed_from j ys n) same) h
+    (λ r. placed_later (suc k) xs ys n r ∙ ap (λ j. placed_from j ys n) same) h
 
 pub entries_of-both : (xs ys : List (List Entry)) → entries_of (xs ++ ys) ≡ entries_of xs ++ entries_of ys
 entries_of-both [] ys = refl
@@ -301,7 +300,7 @@ fresh : (xs : List Entry) (y : Entry) (ys : List Entry) → IsDistinct same_entr
 fresh [] y ys d = refl
 fresh (x ∷ xs) y ys d =
     ap (λ b. b || list_any (same_entry y) xs) (apart_from x y xs ys (IsDistinct-head same_entry x (xs ++ y ∷ ys) d))
-        ∙ fresh xs y ys (IsDistinct-tail same_entry x (xs ++ y ∷ ys) d)
+    ∙ fresh xs y ys (IsDistinct-tail same_entry x (xs ++ y ∷ ys) d)
 
 -- Entries whose names differ are put in as they are.
 pub insert_all_distinct : (xs ys : List Entry) → IsDistinct same_entry (xs ++ ys) → insert_all same_entry xs ys ≡ xs ++ ys
@@ -310,7 +309,7 @@ insert_all_distinct xs (y ∷ ys) d =
     let same : (xs ++ y ∷ []) ++ ys ≡ xs ++ y ∷ ys = append_assoc xs (y ∷ []) ys in
     let put : insert_key same_entry xs y ≡ xs ++ y ∷ [] = ap (λ b. cond b xs (xs ++ y ∷ [])) (fresh xs y ys d) in
     ap (λ l. insert_all same_entry l ys) put
-        ∙ insert_all_distinct (xs ++ y ∷ []) ys (subst (IsDistinct same_entry) (sym same) d) ∙ same
+    ∙ insert_all_distinct (xs ++ y ∷ []) ys (subst (IsDistinct same_entry) (sym same) d) ∙ same
 
 distinct_nil : IsDistinct same_entry []
 unfolding IsDistinct
@@ -327,7 +326,7 @@ names_apart : (cs : List ConstInfo) → DistinctNames cs → IsDistinct same_nam
 unfolding same_name
 names_apart cs d =
     IsDistinct-from_apart same_name cs (λ i j c before within.
-        differ_step (get_or cs i c).name (get_or cs j c).name (same_path (get_or cs i c).name (get_or cs j c).name) refl (d i j c before within))
+    differ_step (get_or cs i c).name (get_or cs j c).name (same_path (get_or cs i c).name (get_or cs j c).name) refl (d i j c before within))
 
 base_apart : (c : ConstInfo) (cs : List ConstInfo) → AllByRecursion (λ d. same_name c d ≡ false) cs
     → AllByRecursion (λ d. same_entry (record { info = c; position = base_position }) d ≡ false) (base_entries cs)
@@ -339,7 +338,7 @@ base_distinct : (cs : List ConstInfo) → IsDistinct same_name cs → IsDistinct
 base_distinct [] d = distinct_nil
 base_distinct (c ∷ cs) d =
     IsDistinct-cons same_entry (record { info = c; position = base_position }) (base_entries cs)
-        (base_apart c cs (IsDistinct-head same_name c cs d)) (base_distinct cs (IsDistinct-tail same_name c cs d))
+    (base_apart c cs (IsDistinct-head same_name c cs d)) (base_distinct cs (IsDistinct-tail same_name c cs d))
 
 pub IsDistinct-base : (cs : List ConstInfo) → DistinctNames cs → IsDistinct same_entry (base_entries cs)
 IsDistinct-base cs d = base_distinct cs (names_apart cs d)
@@ -361,7 +360,7 @@ pub free : (k : ℕ) (es : List Entry) (e : Entry) → None ≡ placed_from k es
 free k [] e h = refl
 free k (d ∷ es) e h =
     free_step (has_name e.info.name d) (same_entry e d) (d.position, k) (placed_from (suc k) es e.info.name) (list_any (same_entry e) es)
-        (entry_equivalence.symm e d) (free (suc k) es e) h
+    (entry_equivalence.symm e d) (free (suc k) es e) h
 
 pub IsDistinct-pushed : (es : List Entry) (e : Entry) → IsDistinct same_entry es → None ≡ placed_from 0 es e.info.name → IsDistinct same_entry (es ++ e ∷ [])
 IsDistinct-pushed es e d h = IsDistinct-push entry_equivalence es e d (free 0 es e h)

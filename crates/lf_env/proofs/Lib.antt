@@ -1,3 +1,3 @@
 pub mod Entries
-pub mod Layers
+pub mod Turns
 pub mod Answers

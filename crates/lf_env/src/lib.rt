@@ -4,10 +4,12 @@
 mod answer;
 mod entry;
 mod layer;
+mod layers;
 mod view;
 
 pub use answer::{BodyOf, Lookup};
-pub use view::{BASE, View};
+pub use layers::BASE;
+pub use view::View;
 
 #[cfg(test)]
 mod tests;

@@ -1,4 +1,4 @@
-use Rattle.std.proofs.Common.{◌≡◌, ◌∙◌, ap, sym, refl, Option, Some, None, List, [], ◌∷◌, Bool, true, false, cond, IfSome}
+use Rattle.std.proofs.Common.{◌≡◌, ◌∙◌, ap, refl, Option, Some, None, List, [], ◌∷◌, Bool, true, false, cond, IfSome}
 use Rattle.std.specs.List.{find}
 use Rattle.std.specs.Option.{option_map}
 use Rattle.lf_env.specs.View.{Entry}
@@ -20,4 +20,4 @@ found_passes f p es (Some a) h = passes p es (f a) h
 pub returns-clause-named : goal.returns-clause-named
 returns-clause-named c =
     found_passes (λ r. r.1.now) (has_name c.args.words.now) c.args.table.now.keys c.get_full.result
-        (c.get_full.ensures.key ∙ ap (λ n. find (has_name n) c.args.table.now.keys) c.new.ensures)
+    (c.get_full.ensures.key ∙ ap (λ n. find (has_name n) c.args.table.now.keys) c.new.ensures)

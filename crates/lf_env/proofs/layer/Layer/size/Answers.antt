@@ -6,4 +6,4 @@ use Rattle.lf_env.proofs.layer.Layer.size.Goals as goal
 pub returns : goal.returns
 returns c =
     fewer (is_within c.self.inside.limit) c.args.self.now c.self.inside.table.value.keys c.len.result c.self.view_is
-        (c.len.ensures.len ∙ ap (λ t. length t.keys) c.deref.ensures)
+    (c.len.ensures.len ∙ ap (λ t. length t.keys) c.deref.ensures)

@@ -1,5 +1,5 @@
 use Rattle.std.proofs.Common.{◌≤◌, length}
-use Rattle.lf_env.proofs.view.lasting.Given as goal
+use Rattle.lf_env.proofs.layers.lasting.Given as goal
 
 abbrev pub invariant-loop-kept : goal.invariant-loop-kept
 invariant-loop-kept l = l.kept ≤ length l.layers

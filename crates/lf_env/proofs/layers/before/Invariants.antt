@@ -2,7 +2,7 @@ use Rattle.std.proofs.Common.{◌≡◌, take}
 use Rattle.std.specs.List.{filter}
 use Rattle.lf_env.specs.View.{stands_before}
 use Rattle.lf_env.specs.Layer.{entries_of}
-use Rattle.lf_env.proofs.view.before.Given as goal
+use Rattle.lf_env.proofs.layers.before.Given as goal
 
 abbrev pub invariant-loop-layer : goal.invariant-loop-layer
 invariant-loop-layer l =

@@ -1,17 +1,16 @@
 -- Layers in turn: their first, one more of them, tables made of them.
-use Rattle.std.specs.Prelude.{◌≡◌, ℕ, zero, suc, ◌+◌, ◌-◌, ◌≤◌, ◌<◌, ◌^◌, List, [], ◌∷◌, ◌++◌, length, take, drop, filter, Option, Some, None}
-use Rattle.std.proofs.Common.{refl, sym, ◌∙◌, ap, subst, arith, append_assoc, append-nil, get_or, length-append}
+use Rattle.std.specs.Prelude.{◌≡◌, ℕ, suc, ◌+◌, ◌-◌, ◌≤◌, ◌<◌, ◌^◌, List, [], ◌∷◌, ◌++◌, length, take, drop, filter, None}
+use Rattle.std.proofs.Common.{sym, ◌∙◌, ap, subst, arith, append_assoc, get_or, length-append}
 use Rattle.std.specs.List.{IsDistinct}
 use Rattle.std.proofs.lemmas.List.{take-append-drop, take_all, take_more}
 use Rattle.std.proofs.lemmas.List.Sums.{fold-append}
 use Rattle.indexmap.specs.IndexSet.{insert_key, insert_all}
-use Rattle.lf_core.specs.Term.{Path}
 use Rattle.lf_core.specs.declared.constant.ConstInfo.{ConstInfo}
-use Rattle.lf_env.specs.View.{Entry, base_position, find_entry, placed_from, base_entries}
+use Rattle.lf_env.specs.View.{Entry, base_position, placed_from, base_entries}
 use Rattle.lf_env.specs.Names.{same_entry}
 use Rattle.lf_env.specs.Answer.{DistinctNames}
 use Rattle.lf_env.specs.Layer.{entries_of, AreSound}
-use Rattle.lf_env.proofs.Entries.{entries_of-append, entries_of-both, filter-append, insert_all_distinct, IsDistinct-later, IsDistinct-base, IsDistinct-filter, IsDistinct-pushed, length-base, length-filter, base_entries-append, found_first, found_later, placed_first, placed_later}
+use Rattle.lf_env.proofs.Entries.{entries_of-append, entries_of-both, filter-append, insert_all_distinct, IsDistinct-later, IsDistinct-base, IsDistinct-filter, IsDistinct-pushed, length-base, length-filter, base_entries-append}
 
 pub first_and_rest : (ls : List (List Entry)) (first : List Entry) → 1 ≤ length ls → first ≡ get_or ls 0 first
     → entries_of ls ≡ first ++ entries_of (take (length ls - 1) (drop 1 ls))
@@ -32,27 +31,27 @@ pub before_turn : (p : Entry → _) (all more ls : List (List Entry)) (i : ℕ) 
     → kept ≡ filter p item → more ≡ all ++ kept ∷ [] → entries_of all ≡ filter p (entries_of (take i ls)) → entries_of more ≡ filter p (entries_of (take (i + 1) ls))
 before_turn p all more ls i item kept h is k m so_far =
     ap entries_of m ∙ entries_of-append all kept ∙ ap (λ l. l ++ kept) so_far ∙ ap (λ l. filter p (entries_of (take i ls)) ++ l) k
-        ∙ sym (filter-append p (entries_of (take i ls)) item) ∙ ap (filter p) (sym (turn ls i item h is))
+    ∙ sym (filter-append p (entries_of (take i ls)) item) ∙ ap (filter p) (sym (turn ls i item h is))
 
 pub copy_turn : (ls : List (List Entry)) (i : ℕ) (item ks more : List Entry) → i < length ls → item ≡ get_or ls i item
     → more ≡ insert_all same_entry ks item → ks ≡ insert_all same_entry [] (entries_of (take i ls)) → more ≡ insert_all same_entry [] (entries_of (take (i + 1) ls))
 copy_turn ls i item ks more h is m so_far =
     m ∙ ap (λ l. insert_all same_entry l item) so_far ∙ sym (fold-append (insert_key same_entry) [] (entries_of (take i ls)) item)
-        ∙ ap (insert_all same_entry []) (sym (turn ls i item h is))
+    ∙ ap (insert_all same_entry []) (sym (turn ls i item h is))
 
 -- A table of all layers and one more entry.
 pub joined : (ls : List (List Entry)) (ks more : List Entry) (last : Entry) → ks ≡ insert_all same_entry [] (entries_of ls) → more ≡ insert_key same_entry ks last
     → IsDistinct same_entry (entries_of ls ++ last ∷ []) → more ≡ entries_of ls ++ last ∷ []
 joined ls ks more last all m apart =
     m ∙ ap (λ l. insert_key same_entry l last) all ∙ sym (fold-append (insert_key same_entry) [] (entries_of ls) (last ∷ []))
-        ∙ insert_all_distinct [] (entries_of ls ++ last ∷ []) apart
+    ∙ insert_all_distinct [] (entries_of ls ++ last ∷ []) apart
 
 pub base_turn : (cs : List ConstInfo) (c : ConstInfo) (ks more : List Entry) → more ≡ insert_key same_entry ks (record { info = c; position = base_position })
     → ks ≡ insert_all same_entry [] (base_entries cs) → more ≡ insert_all same_entry [] (base_entries (cs ++ c ∷ []))
 base_turn cs c ks more m so_far =
     let e : Entry = record { info = c; position = base_position } in
     m ∙ ap (λ l. insert_key same_entry l e) so_far ∙ sym (fold-append (insert_key same_entry) [] (base_entries cs) (e ∷ []))
-        ∙ ap (insert_all same_entry []) (sym (base_entries-append cs c))
+    ∙ ap (insert_all same_entry []) (sym (base_entries-append cs c))
 
 parts : (ls : List (List Entry)) (k : ℕ) → entries_of ls ≡ entries_of (take k ls) ++ entries_of (drop k ls)
 parts ls k = ap entries_of (sym (take-append-drop k ls)) ∙ entries_of-both (take k ls) (drop k ls)
@@ -60,13 +59,13 @@ parts ls k = ap entries_of (sym (take-append-drop k ls)) ∙ entries_of-both (ta
 pub later_distinct : (ls : List (List Entry)) (k : ℕ) (e : Entry) → IsDistinct same_entry (entries_of ls ++ e ∷ []) → IsDistinct same_entry (entries_of (drop k ls) ++ e ∷ [])
 later_distinct ls k e d =
     IsDistinct-later (entries_of (take k ls)) (entries_of (drop k ls) ++ e ∷ [])
-        (subst (IsDistinct same_entry) (ap (λ l. l ++ e ∷ []) (parts ls k) ∙ append_assoc (entries_of (take k ls)) (entries_of (drop k ls)) (e ∷ [])) d)
+    (subst (IsDistinct same_entry) (ap (λ l. l ++ e ∷ []) (parts ls k) ∙ append_assoc (entries_of (take k ls)) (entries_of (drop k ls)) (e ∷ [])) d)
 
 pub replaced : (ls : List (List Entry)) (k : ℕ) (e : Entry) (all kept : List (List Entry)) (last : List Entry) → all ≡ kept ++ last ∷ [] → kept ≡ take k ls
     → last ≡ entries_of (drop k ls) ++ e ∷ [] → entries_of all ≡ entries_of ls ++ e ∷ []
 replaced ls k e all kept last a b c =
     ap entries_of a ∙ entries_of-append kept last ∙ ap (λ l. entries_of l ++ last) b ∙ ap (λ l. entries_of (take k ls) ++ l) c
-        ∙ sym (append_assoc (entries_of (take k ls)) (entries_of (drop k ls)) (e ∷ [])) ∙ ap (λ l. l ++ e ∷ []) (sym (parts ls k))
+    ∙ sym (append_assoc (entries_of (take k ls)) (entries_of (drop k ls)) (e ∷ [])) ∙ ap (λ l. l ++ e ∷ []) (sym (parts ls k))
 
 -- ---- What views keep
 
