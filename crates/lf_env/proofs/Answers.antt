@@ -4,6 +4,7 @@ use Rattle.std.proofs.Common.{refl, sym, ◌∙◌, ap}
 use Rattle.lf_core.specs.Term.{Path}
 use Rattle.lf_core.specs.declared.constant.ConstKind.{ConstKind}
 use Rattle.lf_env.specs.View.{View, Entry, find_entry, find_branch, parent_of, last_of, is_suffix, fits_suffix, is_definition, is_constructor, stands_before, by_entry, by_parent, need_real, absent, body_of, found_body, definition_body, known_body, opaque}
+use Rattle.lf_env.specs.Layer.{plain_view}
 use Rattle.lf_env.specs.Answer.{IsPlain, fits_parent}
 
 -- Only a suffix fits.
@@ -20,18 +21,15 @@ no_suffix last kind h =
     (is_definition kind) (is_constructor kind) h
 
 module _ (entries : List Entry) (position : ℕ) (n : Path) where
-  abbrev pub plain : View
-  plain = record { entries = entries; branches = []; answers = []; position = position; for_base = false }
-
   by_plain_parent : (s : Bool) (parent : Option Entry) → is_suffix (last_of n) ≡ s
-      → cond s (by_parent plain n parent) absent ≡ cond (fits_parent position (last_of n) parent) need_real absent
+      → cond s (by_parent (plain_view entries position) n parent) absent ≡ cond (fits_parent position (last_of n) parent) need_real absent
   by_plain_parent true None e = refl
   by_plain_parent true (Some parent) e = refl
   by_plain_parent false None e = refl
   by_plain_parent false (Some parent) e =
       ap (λ b. cond (b && stands_before position parent.position) need_real absent) (sym (no_suffix (last_of n) parent.info.kind e))
 
-  pub plain_answer : by_entry plain n None ≡ cond (fits_parent position (last_of n) (find_entry entries (parent_of n))) need_real absent
+  pub plain_answer : by_entry (plain_view entries position) n None ≡ cond (fits_parent position (last_of n) (find_entry entries (parent_of n))) need_real absent
   plain_answer = by_plain_parent (is_suffix (last_of n)) (find_entry entries (parent_of n)) refl
 
 module _ (V : View) (n : Path) (e : Entry) where

@@ -31,7 +31,7 @@ Shows Opaque opaque = Unit {0}
 Shows (AfterBody p) (unresolved (Body q)) = p ≡ q
 Shows _ _ = ⊥
 
--- A view with no branch and no kept answer, as the code makes them.
+-- A view with no branch and no kept answer.
 pub record IsPlain (V : view.View) : Type 0 where
   pub no_branch : V.branches ≡ []
   pub no_answer : V.answers ≡ []

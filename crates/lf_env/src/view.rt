@@ -1,10 +1,6 @@
-ghost use Rattle.std.specs.Prelude.{◌≡◌, ◌+◌, ◌≤◌, ◌++◌, ◌∷◌, [], None, length, filter, if◌then◌else◌, IfOk, OnOk, OnErr};
-ghost use Rattle.std.specs.List.{IsDistinct};
+ghost use Rattle.std.specs.Prelude.{◌≡◌, None, if◌then◌else◌, IfOk, OnOk, OnErr};
 ghost use Rattle.std.specs.Option.{option_copied};
-ghost use Rattle.lf_env.specs.View.{Entry, find_entry, placed_from, placed_of, lookup_of, body_of, fits_suffix as fits, is_definition, known_body, opaque, by_entry, need_real, absent, base_view, base_entries, pushed, view_at, stands_before as is_before};
-ghost use Rattle.indexmap.specs.IndexSet.{insert_all};
-ghost use Rattle.lf_env.specs.Names.{same_entry};
-ghost use Rattle.lf_env.specs.Layer.{entries_of};
+ghost use Rattle.lf_env.specs.View.{find_entry, placed_of, lookup_of, body_of, fits_suffix as fits, is_definition, known_body, opaque, by_entry, need_real, absent, base_view, pushed, view_at};
 ghost use Rattle.lf_env.specs.Answer.{DistinctNames, IsKnown, IsPlain, Shows, fits_parent as parent_fits, told};
 
 use crate::answer::{BodyOf, Lookup};
@@ -20,21 +16,21 @@ use std::marker::Model;
 pub struct View {
     layers: Vec<Layer>,
     position: u32,
+    // no less than the number of entries, so that places fit
     most: usize,
 }
 
 impl Model for View {
-    ghost use Rattle.std.specs.Prelude.{[], false};
     ghost use Rattle.std.specs.Coded.{codes};
     ghost use Rattle.lf_core.specs.Codes.{coded_term};
     ghost use Rattle.lf_env.specs.View.{View as ViewValue};
-    ghost use Rattle.lf_env.specs.Layer.{AreSound, entries_of};
+    ghost use Rattle.lf_env.specs.Layer.{AreSound, entries_of, plain_view};
 
     ghost Value = { ViewValue };
 
     ghost coded = { Prim.hlevel (codes, coded_term) };
 
-    ghost view = { λ v. record { entries = entries_of v.layers.items; branches = []; answers = []; position = v.position; for_base = false } };
+    ghost view = { λ v. plain_view (entries_of v.layers.items) v.position };
 
     ghost invariant = { λ v. AreSound (entries_of v.layers.items) v.most };
 }
