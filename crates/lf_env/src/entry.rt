@@ -1,4 +1,4 @@
-ghost use Rattle.std.specs.Prelude.{◌≡◌, IfOk, fold};
+ghost use Rattle.std.specs.Prelude.{◌≡◌, ⊤, IfOk, fold};
 ghost use Rattle.std.specs.List.{flat_map};
 ghost use Rattle.std.specs.Hash as fed;
 ghost use Rattle.lf_core.specs.Same.{same_path};
@@ -117,6 +117,10 @@ impl<'a> NameParts<'a> {
 }
 
 impl Clone for NameParts<'_> {
+    ghost is_clone = { λ x y. y ≡ x };
+
+    ghost is_infallible = { λ _. ⊤ };
+
     fn clone(&self) -> Result<Self, AllocError> {
         Ok(*self)
     }
