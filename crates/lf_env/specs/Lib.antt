@@ -9,3 +9,6 @@ pub mod Equal
 pub mod Normalize
 pub mod Checker
 pub mod Admission
+pub mod Names
+pub mod Layer
+pub mod Answer
