@@ -1,5 +1,5 @@
 -- What a view with no branch and no kept answer says of a name.
-use Rattle.std.specs.Prelude.{◌≡◌, ℕ, Bool, true, false, ◌&&◌, ◌||◌, cond, if◌then◌else◌, List, [], Option, Some, None, codes, bytes_eq}
+use Rattle.std.specs.Prelude.{◌≡◌, ℕ, Bool, true, false, ◌&&◌, ◌||◌, cond, if◌then◌else◌, List, Option, Some, None, codes, bytes_eq}
 use Rattle.std.proofs.Common.{refl, sym, ◌∙◌, ap}
 use Rattle.lf_core.specs.Term.{Path}
 use Rattle.lf_core.specs.declared.constant.ConstKind.{ConstKind}
