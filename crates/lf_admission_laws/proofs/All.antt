@@ -1,6 +1,7 @@
 -- Over a derived list that the view knows, what is accepted is admitted.
-use Rattle.std.proofs.Common.{◌≡◌, ℕ, zero, Some, List, [], ◌∷◌, refl, sym, ap, ◌∙◌, arith, Contains}
+use Rattle.std.proofs.Common.{Bool, true, false, ◌≡◌, ℕ, zero, List, [], ◌∷◌, refl, sym, ap, ◌∙◌, arith, Contains}
 use Rattle.lf_core.specs.Term.{Path}
+use Rattle.lf_core.specs.Same.{same_path}
 use Rattle.lf_core.specs.Environment.{Environment}
 use Rattle.lf_core.specs.Inductive.{type_of, with_type}
 use Rattle.lf_core.specs.Derived.{ConstructorsNamed, Derived}
@@ -9,18 +10,21 @@ use Rattle.lf_core.specs.declared.constant.CtorInfo.{CtorInfo}
 use Rattle.lf_core.specs.declared.constant.Detail.{Detail}
 use Rattle.lf_core.specs.declared.constant.Detail.TheVariants.{Plain, Ind, Ctor, Rec}
 use Rattle.lf_core.specs.declared.constant.IndDecl.{IndDecl}
-use Rattle.lf_env.specs.View.{View, Entry, find_entry, found, lookup_of, by_entry}
+use Rattle.lf_env.specs.View.{View, found, lookup_of}
+use Rattle.lf_env.specs.Names.{path_is}
 use Rattle.lf_env.specs.Admission.{view_with_type}
 use Rattle.lf_inductive_laws.specs.Declarations.{ConstructorDeclared}
 use Rattle.lf_inductive_laws.proofs.Declared.{as_declared}
+use Rattle.lf_extension_laws.proofs.Pushed.{lookup_other, lookup_own}
 use Rattle.lf_checker_laws.specs.Soundness.{HeldBeside, ClosedList}
 use Rattle.lf_checker_laws.specs.Declarations.{FindsAll, HasBeside, AllEntries}
 use Rattle.lf_checker_laws.proofs.Known.{names_of}
 use Rattle.lf_checker_laws.proofs.Declared.{derived_is_closed_list}
-use Rattle.lf_checker_laws.proofs.Entering.{not_entry, fresh_if}
+use Rattle.lf_checker_laws.proofs.Entering.{fresh_if}
 use Rattle.lf_admission_laws.specs.Admission.{AdmissionIsSound}
+use Rattle.lf_admission_laws.proofs.Forms.{path_same}
 use Rattle.lf_admission_laws.proofs.Reading.{TypesFit}
-use Rattle.lf_admission_laws.proofs.Pushed.{entry_before, entry_new, beside_grows, names_grow, of_all}
+use Rattle.lf_admission_laws.proofs.Pushed.{beside_grows, names_grow, of_all}
 use Rattle.lf_admission_laws.proofs.New_names.{NamesNew}
 use Rattle.lf_admission_laws.proofs.Accepted.{ClosedTypes, accepts}
 
@@ -42,10 +46,11 @@ no_other V E d h all n c index own fields w q =
 
 -- The longer view finds each constant of the longer list.
 finds_all : (V : View) (E : Environment) (d : IndDecl) → FindsAll V E → AllEntries V E → NamesNew V d → FindsAll (view_with_type V d) (with_type E d)
-finds_all V E d k all n = of_all E d (λ c. lookup_of (view_with_type V d) c.name ≡ found c) (λ c w. old c (k c w) (all c w)) (ap (by_entry (view_with_type V d) d.name) (entry_new V d (not_entry V d.name (find_entry V.entries d.name) n.type)))
+finds_all V E d k all n = of_all E d (λ c. lookup_of (view_with_type V d) c.name ≡ found c) (λ c w. at c w (same_path d.name c.name) refl) (lookup_own V d d.name n.type (path_same d.name))
   where
-    old : (c : ConstInfo) → lookup_of V c.name ≡ found c → (e : Entry) × (find_entry V.entries c.name ≡ Some e) → lookup_of (view_with_type V d) c.name ≡ found c
-    old c q e = ap (by_entry (view_with_type V d) c.name) (entry_before V d c.name e.0 e.1) ∙ sym (ap (by_entry V c.name) e.1) ∙ q
+    at : (c : ConstInfo) → Contains E c → (b : Bool) → same_path d.name c.name ≡ b → lookup_of (view_with_type V d) c.name ≡ found c
+    at c w true e = absurd (fresh_if V E d.name all n.type (c, w, sym (path_is d.name c.name e)))
+    at c w false e = lookup_other V d c.name n.type e ∙ k c w
 
 types_named : (V : View) (E : Environment) (d : IndDecl) → FindsAll V E → HasBeside V E → (cs : List CtorInfo) → ConstructorsNamed E d cs → ClosedTypes cs → TypesFit V E cs
 types_named V E d f b [] h s = tt
@@ -60,7 +65,7 @@ admission_is_sound V E h k b all depth = accepts V E depth h λ d n.
       list = list;
       names = n;
       type_named = named;
-      added = λ s new. record { list = list; closed = s; beside = n.beside; named = names_grow V E d d.ty named; fresh = no_other V E d h all new };
+      added = λ s new. record { list = list; closed = s; beside = n.beside; new = new.type; named = names_grow V E d d.ty new.type named; fresh = no_other V E d h all new };
       types_named = λ new. types_named (view_with_type V d) (with_type E d) d (finds_all V E d k.found_there all new)
-          (of_all E d (λ c. HeldBeside (view_with_type V d) (with_type E d) c.name) (λ c w. beside_grows V E d c.name (b c w)) n.beside);
+          (of_all E d (λ c. HeldBeside (view_with_type V d) (with_type E d) c.name) (λ c w. beside_grows V E d c.name new.type (b c w)) n.beside);
     }

@@ -1,5 +1,5 @@
 -- What the rules ask for passes the tests of form.
-use Rattle.std.proofs.Common.{◌≡◌, inl, inr, ℕ, suc, true, false, not, ◌&&◌, ◌||◌, nat_eq, List, [], ◌∷◌, ◌++◌, length, drop, refl, sym, ap, subst, ◌∙◌}
+use Rattle.std.proofs.Common.{◌≡◌, inl, inr, ℕ, suc, true, false, not, ◌&&◌, ◌||◌, nat_eq, List, [], ◌∷◌, ◌++◌, append-nil, length, drop, refl, sym, ap, subst, ◌∙◌}
 use Rattle.std.proofs.lemmas.Bool.{and_from, or_from, or_left, or_right, not_from_false, false_from_ne_true, eq-eqb}
 use Rattle.lf_core.specs.Term.{Path, Universe, level_zero, level_succ, level_max, level_imax, level_param, level_meta, Term, bound, free, meta, sort, const, app, lam, pi, letin, lit}
 use Rattle.lf_core.specs.Same.{same_path, same_universe, same_universes, same_kind, same_binder, same}
@@ -10,8 +10,10 @@ use Rattle.lf_core.specs.Inductive.{Without, AllWithout, AtIndices, Recursive, a
 use Rattle.lf_core.specs.declared.binder.Binder.{Binder}
 use Rattle.lf_core.specs.declared.binder.BinderKind.{BinderKind}
 use Rattle.lf_core.specs.declared.binder.BinderKind.TheVariants.{Explicit, Implicit}
+use Rattle.lf_judgment_laws.proofs.Variables.{apply-append}
 use Rattle.lf_env.specs.Admission.{mentions, any_mentions, is_at_indices, ends_at_indices, is_positive}
-use Rattle.lf_checker_laws.proofs.Tests.{path_is, term_is}
+use Rattle.lf_env.specs.Names.{path_is}
+use Rattle.lf_checker_laws.proofs.Tests.{term_is}
 use Rattle.lf_admission_laws.specs.Forms.{FormTestsAreExact}
 use Rattle.lf_admission_laws.proofs.Forms.{path_same, at_indices_is, positive_is}
 
@@ -63,14 +65,10 @@ drop_front : (xs ys : List Term) → drop (length xs) (xs ++ ys) ≡ ys
 drop_front [] ys = refl
 drop_front (x ∷ xs) ys = drop_front xs ys
 
-append_nil : (xs : List Term) → xs ++ [] ≡ xs
-append_nil [] = refl
-append_nil (x ∷ xs) = ap (λ ys. x ∷ ys) (append_nil xs)
-
 indices_apply : (f : Family) (is : List Term) → indices_of f (apply (self f) is) ≡ is
 indices_apply f is =
     let vs : List Term = variables 0 f.params in
-    let e : arguments_of (apply (self f) is) ≡ vs ++ is = arguments_apply (self f) is [] ∙ arguments_apply (const f.name f.levels) vs (is ++ []) ∙ ap (λ ys. vs ++ ys) (append_nil is) in
+    let e : arguments_of (apply (self f) is) ≡ vs ++ is = arguments_apply (self f) is [] ∙ arguments_apply (const f.name f.levels) vs (is ++ []) ∙ ap (λ ys. vs ++ ys) (append-nil is) in
     ap (drop (length f.params)) e ∙ ap (λ n. drop n (vs ++ is)) (sym (length_variables 0 f.params)) ∙ drop_front vs is
 
 indices_are : (f : Family) (t : Term) (is : List Term) → AtIndices f t is → indices_of f t ≡ is
@@ -112,12 +110,8 @@ self_no_pi : (n : Path) (ls : List Universe) (xs : List Term) {x : Binder} {A B 
 self_no_pi n ls [] e = absurd (cc)
 self_no_pi n ls (y ∷ ys) e = no_pi (const n ls) y ys e
 
-apply_append : (f : Term) (xs ys : List Term) → apply f (xs ++ ys) ≡ apply (apply f xs) ys
-apply_append f [] ys = refl
-apply_append f (x ∷ xs) ys = apply_append (app f x) xs ys
-
 ends_as_tested : (f : Family) (t : Term) → is_at_indices f t ≡ true → (is : List Term) → AtIndices f t is → ends_at_indices f t ≡ true
-ends_as_tested f (pi x A B) e is a = self_no_pi f.name f.levels (variables 0 f.params ++ is) (apply_append (const f.name f.levels) (variables 0 f.params) is ∙ sym a.form)
+ends_as_tested f (pi x A B) e is a = self_no_pi f.name f.levels (variables 0 f.params ++ is) (apply-append (const f.name f.levels) (variables 0 f.params) is ∙ sym a.form)
 ends_as_tested f (bound i) e is a = e
 ends_as_tested f (free k) e is a = e
 ends_as_tested f (meta k) e is a = e

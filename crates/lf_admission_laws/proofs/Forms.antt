@@ -1,7 +1,6 @@
 -- What the tests of form tell of a field, of an end, and of levels.
 use Rattle.std.proofs.Common.{◌≡◌, ◌⊎◌, inl, inr, ℕ, zero, suc, Bool, true, false, not, ◌&&◌, ◌||◌, nat_eq, List, [], ◌∷◌, length, refl, sym, subst, ◌∙◌, arith, true≢false, Contains}
 use Rattle.std.proofs.lemmas.Bool.{eqb-true, and_parts, or_parts, not-true}
-use Rattle.std.proofs.lemmas.Slice.Eq.{bytes_eq-Decides}
 use Rattle.lf_core.specs.Term.{Path, Universe, level_zero, level_succ, Term, bound, free, meta, sort, const, app, lam, pi, letin, lit}
 use Rattle.lf_core.specs.Level.{Leq, Same}
 use Rattle.lf_core.specs.Same.{same_path, same}
@@ -9,6 +8,7 @@ use Rattle.lf_core.specs.Spine.{apply}
 use Rattle.lf_core.specs.Telescope.{pi_count}
 use Rattle.lf_core.specs.Recursor.{Family, self, indices_of}
 use Rattle.lf_core.specs.Inductive.{Without, AllWithout, AtIndices, Recursive, at_indices, over, Positive, NeverZero, ProofsOrIndices}
+use Rattle.lf_env.specs.Names.{path_equivalence}
 use Rattle.lf_env.specs.LevelTest.{is_same, is_at_most}
 use Rattle.lf_env.specs.Admission.{mentions, any_mentions, is_at_indices, ends_at_indices, is_positive, is_low, is_never_zero, is_index, are_proofs_or_indices}
 use Rattle.lf_checker_laws.proofs.Tests.{no_false, term_is, level_same, level_at_most}
@@ -18,8 +18,7 @@ either true y e = inl refl
 either false y e = inr e
 
 pub path_same : (n : Path) → same_path n n ≡ true
-path_same [] = refl
-path_same (x ∷ xs) = rw ((bytes_eq-Decides x x).1 refl) (path_same xs)
+path_same n = path_equivalence.refl n
 
 other_name : (c n : Path) → same_path c n ≡ false → c ≡ n → ⊥
 other_name c n e q = true≢false (sym (subst (λ m. same_path c m ≡ true) q (path_same c)) ∙ e)

@@ -17,7 +17,8 @@ use Rattle.lf_env.specs.Calls.{checked, Calls, seen_as}
 use Rattle.lf_env.specs.Whnf.{turn_limit, is_true}
 use Rattle.lf_env.specs.Equal.{Verdict, decided, again, undecided, decided_by, or_else, decides, when_true, if_true, and_then, equal_binders, by_form, by_whnf, is_prop, flat, proposition_of, proves, by_proofs, expanded, expansion_of, eta_expansion, against_left, against_right, by_eta, by_predecessors, by_literals, same_head, equal_all, by_arguments, Definition, of_body, definition_seen, definition_of, levels_of, unfolded, unfold_left, unfold_right, unfold_both, by_height, by_unfolding, by_types, by_heads, equal_turn, equal_loop, equal_body}
 use Rattle.lf_checker_laws.specs.Soundness.{Names, Fits, AllFit, ContextFits, ClosedList, Post, Typed, Reduct, Sound}
-use Rattle.lf_checker_laws.proofs.Tests.{no_false, path_is, term_is, level_same, levels_same}
+use Rattle.lf_env.specs.Names.{path_is}
+use Rattle.lf_checker_laws.proofs.Tests.{no_false, term_is, level_same, levels_same}
 use Rattle.lf_checker_laws.proofs.Runs.{post_then, post_map, Maybe, post_caught, post_choose, post_made_then, post_made_before, post_opening_then, Yes, post_and}
 use Rattle.lf_checker_laws.proofs.Fitting.{opened_fits, context_with, head_fits, arguments_fit, levels_fit}
 use Rattle.lf_checker_laws.proofs.Forming.{AllFormed, formed_arguments}

@@ -21,7 +21,8 @@ use Rattle.lf_env.specs.Calls.{checked, Calls, seen_as}
 use Rattle.lf_env.specs.Whnf.{Progress, stays, next, ends, goes, Recursor, Split, one_before, split, constructor_of, shared, fire_rule, fire_detail, fire_seen, fire_head, fire, is_true, put_in, is_prop_level}
 use Rattle.lf_inductive_laws.specs.Declarations.{EndsIn}
 use Rattle.lf_checker_laws.specs.Soundness.{Held, HeldBeside, Names, Fits, AllFit, ContextFits, PartsHeld, ClosedList, Post, Typed, Reduct, Sound}
-use Rattle.lf_checker_laws.proofs.Tests.{no_false, path_is, level_same}
+use Rattle.lf_env.specs.Names.{path_is}
+use Rattle.lf_checker_laws.proofs.Tests.{no_false, level_same}
 use Rattle.lf_checker_laws.proofs.Runs.{post_then, post_map, post_both, Maybe, post_caught, post_choose, post_put, post_made_before, Yes}
 use Rattle.lf_checker_laws.proofs.Fitting.{levels_fit, apply_fits, arguments_fit, all_append, all_take, all_drop}
 use Rattle.lf_checker_laws.proofs.Forming.{formed_as, equal_apply}

@@ -1,9 +1,7 @@
 -- What the tests of names, levels and terms tell.
 use Rattle.std.proofs.Common.{◌≡◌, ℕ, ◌≤◌, true, false, ◌&&◌, ◌||◌, nat_lt, Bool, length, List, [], ◌∷◌, refl, sym, ap, ap₂, ◌∙◌, ◌↔◌, arith, true≢false}
-use Rattle.std.specs.Str.{bytes_eq}
 use Rattle.std.proofs.lemmas.Bool.{cond_both, eqb-true, ltb-true, ltb-false, and_parts, or_parts, or_from, cond-false, false_from_ne_true}
-use Rattle.std.proofs.lemmas.Slice.Eq.{bytes_eq-Decides}
-use Rattle.lf_core.specs.Term.{Path, Universe, level_zero, level_succ, level_max, level_imax, level_param, level_meta, Term, bound, free, meta, sort, const, app, lam, pi, letin, lit}
+use Rattle.lf_core.specs.Term.{Universe, level_zero, level_succ, level_max, level_imax, level_param, level_meta, Term, bound, free, meta, sort, const, app, lam, pi, letin, lit}
 use Rattle.lf_core.specs.Level.{value_of, Leq, Same, AllSame}
 use Rattle.lf_core.specs.Same.{same_path, same_universe, same_universes, same_kind, same_binder, same}
 use Rattle.lf_core.specs.declared.binder.Binder.{Binder}
@@ -14,17 +12,11 @@ use Rattle.lf_level.specs.Decision.{passes}
 use Rattle.lf_level.proofs.Decided.{same_answer, leq_answer}
 use Rattle.lf_core.specs.Size.{level_depth}
 use Rattle.lf_checker_laws.specs.Levels.{LevelTestIsExact}
+use Rattle.lf_env.specs.Names.{path_is}
 use Rattle.lf_env.specs.LevelTest.{has_metavariable, both_orders, is_too_great, is_same, is_at_most, are_same}
 
 pub no_false : {P : Type 0} → false ≡ true → P
 no_false e = absurd (true≢false (sym e))
-
-pub path_is : (a b : Path) → same_path a b ≡ true → a ≡ b
-path_is [] [] h = refl
-path_is (x ∷ xs) (y ∷ ys) h =
-    let p = and_parts (bytes_eq x y) (same_path xs ys) h in
-    ap₂ (λ z zs. z ∷ zs) ((bytes_eq-Decides x y).0 p.0) (path_is xs ys p.1)
-path_is _ _ h = no_false h
 
 pub universe_is : (a b : Universe) → same_universe a b ≡ true → a ≡ b
 universe_is level_zero level_zero h = refl

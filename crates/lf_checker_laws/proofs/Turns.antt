@@ -21,7 +21,8 @@ use Rattle.lf_env.specs.Run.{Run, gives, choose}
 use Rattle.lf_env.specs.Calls.{Calls, seen_as, see}
 use Rattle.lf_env.specs.Whnf.{Progress, stays, next, ends, Recursor, Split, split, constructor_of, shared, fire, put_in, is_fieldless, put_in_seen, is_prop_level, like_k, or_like_k, at_major, recursor_turn, as_number, operated, on_numbers, operands, literal_turn, by_body, delta_turn, detail_turn, constant_turn, head_turn, whnf_turn, turn_limit, whnf_loop, whnf_body}
 use Rattle.lf_checker_laws.specs.Soundness.{Held, zero_name, true_name, false_name, HeldBeside, Names, AllFit, ContextFits, PartsHeld, ClosedList, Post, Reduct, Sound}
-use Rattle.lf_checker_laws.proofs.Tests.{no_false, path_is, term_is}
+use Rattle.lf_env.specs.Names.{path_is}
+use Rattle.lf_checker_laws.proofs.Tests.{no_false, term_is}
 use Rattle.lf_checker_laws.proofs.Runs.{post_then, post_map, post_choose}
 use Rattle.lf_checker_laws.proofs.Fitting.{instantiate_fits, levels_fit, head_fits, arguments_fit, all_front, all_back}
 use Rattle.lf_checker_laws.proofs.Forming.{AllFormed, formed_parts, equal_apply}

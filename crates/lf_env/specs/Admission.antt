@@ -1,12 +1,12 @@
 -- Whether an inductive declaration is admitted, as a function of the checker's form: its tests in their order, with their costs. Opening a
 -- binder costs the nodes of what is made; the tests of form and the recursor cost nothing. This project's own.
-use Rattle.std.specs.Prelude.{ℕ, zero, suc, Bool, true, false, not, ◌&&◌, ◌||◌, nat_eq, nat_le, Option, Some, None, List, [], ◌∷◌, length}
+use Rattle.std.specs.Prelude.{ℕ, suc, Bool, true, false, not, ◌&&◌, ◌||◌, nat_eq, nat_le, Option, Some, None, List, [], ◌∷◌, length}
 use Rattle.lf_core.specs.Term.{Path, Universe, level_zero, level_succ, Term, free, const, app, lam, pi, letin}
 use Rattle.lf_core.specs.Same.{same_path, same}
 use Rattle.lf_core.specs.Spine.{apply}
 use Rattle.lf_core.specs.Environment.{Context, with}
 use Rattle.lf_core.specs.Judgment.{result_level}
-use Rattle.lf_core.specs.Telescope.{Local, Telescope, pi_count}
+use Rattle.lf_core.specs.Telescope.{Telescope, pi_count}
 use Rattle.lf_core.specs.Recursor.{Family, self, indices_of, is_among, recursor_name, recursor_type, recursor_family, motive_level, recursor_rules}
 use Rattle.lf_core.specs.Inductive.{own_family, type_of, declared}
 use Rattle.lf_core.specs.declared.constant.ConstInfo.{ConstInfo}

@@ -1,8 +1,6 @@
 -- A view with an inductive type's constant, under a name that isn't there, extends where the view does. The other names are looked up as
 -- before: no realized name has an inductive type as its parent.
-use Rattle.std.proofs.Common.{◌≡◌, ℕ, suc, Bool, true, false, ◌&&◌, ◌||◌, if◌then◌else◌, List, [], ◌∷◌, ◌++◌, Option, Some, None, refl, sym, ap, ap₂, subst, ◌∙◌}
-use Rattle.std.proofs.lemmas.Bool.{and_parts}
-use Rattle.std.proofs.lemmas.Slice.Eq.{bytes_eq-Decides}
+use Rattle.std.proofs.Common.{◌≡◌, ℕ, suc, Bool, true, false, ◌&&◌, ◌||◌, if◌then◌else◌, List, [], ◌∷◌, ◌++◌, Option, Some, None, refl, sym, ap, subst, ◌∙◌}
 use Rattle.std.specs.Str.{bytes_eq}
 use Rattle.std.specs.Prelude.{codes}
 use Rattle.lf_core.specs.Term.{Path}
@@ -13,17 +11,10 @@ use Rattle.lf_core.specs.declared.constant.ConstKind.{ConstKind}
 use Rattle.lf_core.specs.declared.constant.ConstKind.TheVariants.{Axiom, Inductive}
 use Rattle.lf_core.specs.declared.constant.IndDecl.{IndDecl}
 use Rattle.lf_env.specs.View.{View, Entry, find_entry, branch_over, parent_of, last_of, fits_suffix, is_suffix, placed_from, placed_of, Lookup, found, absent, need_real, by_parent, by_suffix, by_branch, by_entry, lookup_of, body_of, not_there, there_by, there_of}
+use Rattle.lf_env.specs.Names.{path_is}
 use Rattle.lf_env.specs.Extends.{SameLookup, SameBody, IsAnswered, SameOrder, position_placed, Extends}
 use Rattle.lf_env.specs.Admission.{view_with_type}
 use Rattle.lf_extension_laws.proofs.Extended_declarations.{place_of, place_found, SameThere, there_kept}
-
-path_is : (a b : Path) → same_path a b ≡ true → a ≡ b
-path_is [] [] h = refl
-path_is (x ∷ xs) (y ∷ ys) h =
-    let p = and_parts (bytes_eq x y) (same_path xs ys) h in
-    ap₂ (λ z zs. z ∷ zs) ((bytes_eq-Decides x y).0 p.0) (path_is xs ys p.1)
-path_is [] (y ∷ ys) h = absurd (cc)
-path_is (x ∷ xs) [] h = absurd (cc)
 
 -- ---- One entry more, at the end.
 
@@ -120,13 +111,13 @@ by_entry_as_before U d n None h = at (branch_over U.branches n)
     at None = by_suffix_as_before U d n h
 
 -- Another name is looked up as before, and the type's own name is found.
-lookup_other : (U : View) (d : IndDecl) (n : Path) → there_of U d.name ≡ not_there → same_path d.name n ≡ false → lookup_of (view_with_type U d) n ≡ lookup_of U n
+pub lookup_other : (U : View) (d : IndDecl) (n : Path) → there_of U d.name ≡ not_there → same_path d.name n ≡ false → lookup_of (view_with_type U d) n ≡ lookup_of U n
 lookup_other U d n h q = ap (by_entry (view_with_type U d) n) (find_other U.entries (type_entry U d) n q) ∙ by_entry_as_before U d n (find_entry U.entries n) h
 
 find_own : (U : View) (d : IndDecl) (n : Path) → there_of U d.name ≡ not_there → same_path d.name n ≡ true → find_entry (view_with_type U d).entries n ≡ Some (type_entry U d)
 find_own U d n h q = find_last U.entries (type_entry U d) n q (subst (λ m. find_entry U.entries m ≡ None) (path_is d.name n q) (no_entry_there U d.name h))
 
-lookup_own : (U : View) (d : IndDecl) (n : Path) → there_of U d.name ≡ not_there → same_path d.name n ≡ true → lookup_of (view_with_type U d) n ≡ found (type_of d false)
+pub lookup_own : (U : View) (d : IndDecl) (n : Path) → there_of U d.name ≡ not_there → same_path d.name n ≡ true → lookup_of (view_with_type U d) n ≡ found (type_of d false)
 lookup_own U d n h q = ap (by_entry (view_with_type U d) n) (find_own U d n h q)
 
 -- ---- Extension.
