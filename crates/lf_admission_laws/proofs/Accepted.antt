@@ -24,7 +24,6 @@ use Rattle.lf_env.specs.Admission.{Read, admit_constructors, eliminates_everywhe
 use Rattle.lf_inductive_laws.specs.Telescopes.{InSorts}
 use Rattle.lf_checker_laws.specs.Soundness.{ClosedList, Post, Sound}
 use Rattle.lf_checker_laws.specs.Soundness as sound
-use Rattle.lf_checker_laws.specs.Declarations.{AllEntries}
 use Rattle.lf_checker_laws.proofs.Runs.{post_then, post_map, post_choose, post_put}
 use Rattle.lf_checker_laws.proofs.Types.{InSort, sort_sound}
 use Rattle.lf_checker_laws.proofs.All.{calls_sound}
@@ -60,7 +59,6 @@ longer E d c w = (c, Contains-append_left E (type_of d false ∷ []) c w, self_t
 
 -- What is asked of view, list and declaration.
 pub record Ready (V : View) (E : Environment) (d : IndDecl) : Type 0 where
-  pub entries : AllEntries V E
   pub list : ClosedList V E
   pub names : Names V E d
   pub type_named : sound.Names V E d.ty
@@ -79,7 +77,7 @@ introduced_by V E d k n cl l r ks t p q h =
       large = large;
       is = refl;
       introduced = record {
-        fresh = all_fresh V E d large k.entries n;
+        fresh = all_fresh V E d large k.names.type_entry k.names.constructor_entries k.names.recursor_entry n;
         admitted = record {
           level = l;
           typed = t;

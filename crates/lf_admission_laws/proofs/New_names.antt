@@ -17,7 +17,8 @@ use Rattle.lf_env.specs.Run.{Run, refuse, duplicate}
 use Rattle.lf_env.specs.Checker.{unless_there}
 use Rattle.lf_env.specs.Admission.{unless_taken, unless_declared}
 use Rattle.lf_checker_laws.specs.Soundness.{Post}
-use Rattle.lf_checker_laws.specs.Declarations.{AllEntries}
+use Rattle.lf_checker_laws.specs.Declarations.{HasEntry}
+use Rattle.lf_admission_laws.specs.Admission.{ConstructorsHaveEntries}
 use Rattle.lf_checker_laws.proofs.Runs.{post_choose}
 use Rattle.lf_checker_laws.proofs.Entering.{unless_sound, fresh_if}
 use Rattle.lf_admission_laws.proofs.Forms.{path_same}
@@ -74,23 +75,23 @@ among_not n m taken e q r = true≢false (sym q ∙ subst (λ x. is_among x take
 among_more : (n m : Path) (taken : List Path) → is_among n taken ≡ true → is_among n (m ∷ taken) ≡ true
 among_more n m taken e = or_right (same_path n m) (is_among n taken) e
 
-constructors_fresh : (V : View) (E G : Environment) (d : IndDecl) (taken : List Path) (index : ℕ) (cs : List CtorInfo) (r : ConstInfo) → AllEntries V E → Covers E G taken → is_among r.name taken ≡ true → Fresh G r.name → ConstructorsNew V taken cs → AllFresh G (constructors_from d index cs ++ r ∷ [])
+constructors_fresh : (V : View) (E G : Environment) (d : IndDecl) (taken : List Path) (index : ℕ) (cs : List CtorInfo) (r : ConstInfo) → ConstructorsHaveEntries V E cs → Covers E G taken → is_among r.name taken ≡ true → Fresh G r.name → ConstructorsNew V taken cs → AllFresh G (constructors_from d index cs ++ r ∷ [])
 constructors_fresh V E G d taken index [] r all h e f n = (f, tt)
 constructors_fresh V E G d taken index (c ∷ cs) r all h e f n =
     let k : ConstInfo = constructor_of d index c in (
-      h c.name (fresh_if V E c.name all n.0) n.1,
-      constructors_fresh V E (G ++ k ∷ []) d (c.name ∷ taken) (suc index) cs r all (cover_more E G taken k h) (among_more r.name c.name taken e) (fresh_more G k r.name f (among_not c.name r.name taken n.1 e)) n.2,
+      h c.name (fresh_if V E c.name all.0 n.0) n.1,
+      constructors_fresh V E (G ++ k ∷ []) d (c.name ∷ taken) (suc index) cs r all.1 (cover_more E G taken k h) (among_more r.name c.name taken e) (fresh_more G k r.name f (among_not c.name r.name taken n.1 e)) n.2,
     )
 
 not_longer : (n : Path) (x : List ℕ) → n ≡ n ++ x ∷ [] → ⊥
 not_longer n x e = let l : length n ≡ length (n ++ x ∷ []) = ap (λ m. length m) e in absurd (omega (arith, l, length-append n (x ∷ [])))
 
-pub all_fresh : (V : View) (E : Environment) (d : IndDecl) (large : Bool) → AllEntries V E → NamesNew V d → AllFresh E (declared d large)
-all_fresh V E d large all n =
+pub all_fresh : (V : View) (E : Environment) (d : IndDecl) (large : Bool) → HasEntry V E d.name → ConstructorsHaveEntries V E d.ctors → HasEntry V E (recursor_name d) → NamesNew V d → AllFresh E (declared d large)
+all_fresh V E d large own all last n =
     let t : ConstInfo = type_of d large in
     let r : ConstInfo = recursor_of d large in
-    let f : Fresh E d.name = fresh_if V E d.name all n.type in
-    let g : Fresh E r.name = fresh_if V E r.name all n.recursor in
+    let f : Fresh E d.name = fresh_if V E d.name own n.type in
+    let g : Fresh E r.name = fresh_if V E r.name last n.recursor in
     let covers : Covers E (E ++ t ∷ []) (d.name ∷ r.name ∷ []) = λ m h e. let p = or_parts (same_path m d.name) (is_among m (r.name ∷ [])) e in fresh_more E t m h (other m d.name p.0) in
     let among : is_among r.name (d.name ∷ r.name ∷ []) ≡ true = or_right (same_path r.name d.name) (is_among r.name (r.name ∷ [])) (or_left (same_path r.name r.name) false (path_same r.name)) in
     (f, constructors_fresh V E (E ++ t ∷ []) d (d.name ∷ r.name ∷ []) 0 d.ctors r all covers among (fresh_more E t r.name g (not_longer d.name (codes "rec"))) n.constructors)

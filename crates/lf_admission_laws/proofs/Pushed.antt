@@ -54,7 +54,7 @@ held_grows V E d n new h c q = at (found_before V d n c new q)
     at (inr e) = subst (Contains (with_type E d)) e.0 (type_within E d)
 
 held_value_grows : (V : View) (E : Environment) (d : IndDecl) (r : LitOut) → there_of V d.name ≡ not_there → HeldValue V E r → HeldValue (view_with_type V d) (with_type E d) r
-held_value_grows V E d (literal.Nat k) new h = held_grows V E d _ new h
+held_value_grows V E d (literal.Nat k) new h = tt
 held_value_grows V E d (literal.Bool true) new h = held_grows V E d _ new h
 held_value_grows V E d (literal.Bool false) new h = held_grows V E d _ new h
 

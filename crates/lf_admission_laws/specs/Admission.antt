@@ -1,21 +1,32 @@
 -- What the test of an inductive declaration accepts over a derived list is admitted, and keeps the list derived.
-use Rattle.std.specs.Prelude.{◌≡◌, ℕ, Bool, List, ◌++◌, length}
+use Rattle.std.specs.Prelude.{◌≡◌, ℕ, Bool, List, [], ◌∷◌, ◌++◌, length}
 use Rattle.lf_core.specs.Environment.{Environment, NamesDeclared, LevelsBelow}
+use Rattle.lf_core.specs.Recursor.{recursor_name}
 use Rattle.lf_core.specs.Inductive.{declared, with_type}
 use Rattle.lf_core.specs.Derived.{ConstructorsNamed, Introduced, Derived}
 use Rattle.lf_core.specs.declared.constant.ConstInfo.{ConstInfo}
+use Rattle.lf_core.specs.declared.constant.CtorInfo.{CtorInfo}
 use Rattle.lf_core.specs.declared.constant.IndDecl.{IndDecl}
 use Rattle.lf_env.specs.View.{View}
 use Rattle.lf_env.specs.Admission.{view_with_type, add_inductive}
 use Rattle.lf_checker_laws.specs.Soundness.{HeldBeside, Post}
-use Rattle.lf_checker_laws.specs.Declarations.{Knows, HasBeside, AllEntries}
+use Rattle.lf_checker_laws.specs.Declarations.{Knows, HasBeside, HasEntry}
 
--- The declaration names only the list and its own type, at its own levels; and the list has what counts as named beside that type.
+-- What the list has under the constructors' names are entries of the view.
+abbrev pub ConstructorsHaveEntries : View → Environment → List CtorInfo → Type 0
+ConstructorsHaveEntries V E [] = Unit {0}
+ConstructorsHaveEntries V E (c ∷ cs) = HasEntry V E c.name × ConstructorsHaveEntries V E cs
+
+-- The declaration names only the list and its own type, at its own levels; and the list has what counts as named beside that type. What
+-- the list has under the names that are declared are entries of the view.
 pub record Names (V : View) (E : Environment) (d : IndDecl) : Type 0 where
   pub named : NamesDeclared E d.ty
   pub levels : LevelsBelow (length d.levels) d.ty
   pub constructors : ConstructorsNamed (with_type E d) d d.ctors
   pub beside : HeldBeside (view_with_type V d) (with_type E d) d.name
+  pub type_entry : HasEntry V E d.name
+  pub constructor_entries : ConstructorsHaveEntries V E d.ctors
+  pub recursor_entry : HasEntry V E (recursor_name d)
 
 -- The constants that are given are those of the declaration, which is admitted.
 pub record Admits (E : Environment) (d : IndDecl) (given : List ConstInfo) : Type 0 where
@@ -28,4 +39,4 @@ pub record Accepts (V : View) (E : Environment) (depth : ℕ) : Type 0 where
   pub derived : (d : IndDecl) (u : ℕ) → Names V E d → Post (λ given. Derived (E ++ given)) (add_inductive V depth d u)
 
 abbrev pub AdmissionIsSound : Type 0
-AdmissionIsSound = (V : View) (E : Environment) → Derived E → Knows V E → HasBeside V E → AllEntries V E → (depth : ℕ) → Accepts V E depth
+AdmissionIsSound = (V : View) (E : Environment) → Derived E → Knows V E → HasBeside V E → (depth : ℕ) → Accepts V E depth

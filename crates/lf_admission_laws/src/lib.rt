@@ -9,7 +9,8 @@ pub fn tests_of_form_are_exact()
     ensures { FormTestsAreExact }
 {}
 
-/// What `add_inductive` accepts over a derived list, under names that the list has, is admitted and keeps the list derived.
+/// What `add_inductive` accepts over a derived list, of a declaration that names only the list and its own type, is admitted and keeps the
+/// list derived.
 pub fn accepted_is_admitted()
     ensures { AdmissionIsSound }
 {}

@@ -1,21 +1,22 @@
 -- What is accepted over a derived environment keeps it derived.
-use Rattle.std.proofs.Common.{◌≡◌, ◌⊎◌, ℕ, Bool, true, ◌&&◌, [], ◌∷◌, ◌++◌, length, sym, subst, Some}
+use Rattle.std.proofs.Common.{◌≡◌, ◌⊎◌, ℕ, Bool, true, ◌&&◌, [], ◌∷◌, ◌++◌, length, sym, subst, Some, None}
 use Rattle.std.proofs.lemmas.Bool.{and_parts}
 use Rattle.lf_core.specs.Term.{Path, Universe, Term, sort}
 use Rattle.lf_core.specs.Scope.{Scoped}
 use Rattle.lf_core.specs.Environment.{Environment, Fresh, NamesDeclared, LevelsBelow}
 use Rattle.lf_core.specs.Judgment.{Equal, HasType, conversion, has_type, is_type}
-use Rattle.lf_core.specs.Derived.{Stated, Derived, with_value}
+use Rattle.lf_core.specs.Derived.{Stated, Derived, with_axiom, with_value}
 use Rattle.lf_core.specs.declared.constant.ConstInfo.{ConstInfo}
-use Rattle.lf_core.specs.declared.constant.ConstKind.TheVariants.{Def, Theorem}
+use Rattle.lf_core.specs.declared.constant.ConstKind.TheVariants.{Axiom, Def, Theorem}
+use Rattle.lf_core.specs.declared.constant.Detail.TheVariants.{Plain}
 use Rattle.lf_env.specs.View.{View, there_of}
 use Rattle.lf_env.specs.Run.{Run, refuse, choose, not_closed, wrong_value}
 use Rattle.lf_env.specs.Calls.{checked, Calls}
 use Rattle.lf_env.specs.Infer.{sort_of}
 use Rattle.lf_env.specs.Checker.{calls, is_closed, is_value_closed, unless_there, add_header, height_of, check_value, add_decl}
 use Rattle.lf_checker_laws.specs.Soundness.{Names, ClosedList, Post, Typed, Sound}
-use Rattle.lf_checker_laws.specs.Declarations.{Knows, AllEntries, AcceptedIsDerived}
-use Rattle.lf_checker_laws.proofs.Runs.{post_then, post_any, post_map, post_choose, Yes}
+use Rattle.lf_checker_laws.specs.Declarations.{Knows, HasEntry, AcceptedIsDerived}
+use Rattle.lf_checker_laws.proofs.Runs.{post_then, post_any, post_both, post_map, post_choose, Yes}
 use Rattle.lf_checker_laws.proofs.Types.{InSort, sort_sound}
 use Rattle.lf_checker_laws.proofs.All.{calls_sound}
 use Rattle.lf_checker_laws.proofs.Known.{names_of}
@@ -52,15 +53,26 @@ decl_sound V E d k cl depth c v u s kind q nv lv =
     with_value c v d s kind q (record { typed = t; named = nv; levels = lv })))
     (λ e. tt)
 
-new_by : {A : Type 0} (V : View) (E : Environment) (n : Path) (b : Bool) (m : Run A) (u : ℕ) → AllEntries V E → Post (λ x. Fresh E n) (choose b (unless_there n (there_of V n) m) (refuse not_closed) u)
+new_by : {A : Type 0} (V : View) (E : Environment) (n : Path) (b : Bool) (m : Run A) (u : ℕ) → HasEntry V E n → Post (λ x. Fresh E n) (choose b (unless_there n (there_of V n) m) (refuse not_closed) u)
 new_by V E n b m u all =
     post_choose (λ x. Fresh E n) b (unless_there n (there_of V n) m) (refuse not_closed) u
     (λ e. unless_sound (λ x. Fresh E n) n (there_of V n) m u (λ q. post_map (λ x. Unit {0}) (λ x. Fresh E n) (m u) (post_any (m u)) (λ x z. fresh_if V E n all q))) (λ e. tt)
 
+new_header : (V : View) (E : Environment) (depth : ℕ) (n : Path) (ty : Term) (u : ℕ) → HasEntry V E n → Post (λ l. Fresh E n) (add_header V depth n ty u)
+new_header V E depth n ty u has = new_by V E n (is_closed ty) (sort_of (calls V depth) checked [] ty) u has
+
+stated_by : (V : View) (E : Environment) → Knows V E → ClosedList V E → (depth : ℕ) (c : ConstInfo) (u : ℕ) → HasEntry V E c.name → c.detail ≡ Plain → NamesDeclared E c.ty → LevelsBelow (length c.levels) c.ty → Post (λ l. Stated E c) (add_header V depth c.name c.ty u)
+stated_by V E k cl depth c u has plain named levels =
+    post_map (λ l. InSort E [] c.ty l × Fresh E c.name) (λ l. Stated E c) (add_header V depth c.name c.ty u)
+    (post_both (InSort E [] c.ty) (λ l. Fresh E c.name) (add_header V depth c.name c.ty u) (header_sound V E cl depth c.name c.ty u (names_of V E k.found_there cl.beside c.ty named)) (new_header V E depth c.name c.ty u has))
+    λ l h. record { fresh = h.1; plain = plain; level = l; type = record { typed = h.0; named = named; levels = levels } }
+
 pub accepted_is_derived : AcceptedIsDerived
 accepted_is_derived V E d k b depth = let cl : ClosedList V E = derived_is_closed_list V E d k b in record {
   header = λ n ty u h. header_sound V E cl depth n ty u h;
+  stated = λ c u has plain named levels. stated_by V E k cl depth c u has plain named levels;
+  assumed = λ c u has plain named levels kind none. post_map (λ l. Stated E c) (λ l. Derived (E ++ c ∷ [])) (add_header V depth c.name c.ty u) (stated_by V E k cl depth c u has plain named levels) λ l s. with_axiom c d s kind none;
   value = λ c v u s kind q nv lv. decl_sound V E d k cl depth c v u s kind q nv lv;
-  new_header = λ n ty u all. new_by V E n (is_closed ty) (sort_of (calls V depth) checked [] ty) u all;
-  new_value = λ c u all. new_by V E c.name (is_closed c.ty && is_value_closed c.value) (check_value V depth c.ty c.value) u all;
+  new_header = λ n ty u has. new_header V E depth n ty u has;
+  new_value = λ c u has. new_by V E c.name (is_closed c.ty && is_value_closed c.value) (check_value V depth c.ty c.value) u has;
 }

@@ -8,7 +8,7 @@ use Rattle.lf_env.specs.View.{View, Entry, find_entry, lookup_of, There, there, 
 use Rattle.lf_env.specs.Run.{Run}
 use Rattle.lf_env.specs.Checker.{is_scoped, unless_there}
 use Rattle.lf_checker_laws.specs.Soundness.{Post}
-use Rattle.lf_checker_laws.specs.Declarations.{AllEntries}
+use Rattle.lf_checker_laws.specs.Declarations.{HasEntry}
 use Rattle.lf_checker_laws.proofs.Tests.{no_false}
 
 pub scoped_is : (d : ℕ) (t : Term) → is_scoped d t ≡ true → Scoped d 0 t
@@ -38,7 +38,5 @@ not_entry V n None q = refl
 some_none : {X : Type 0} {x : X} → Some x ≡ None → ⊥
 some_none e = cc
 
-pub fresh_if : (V : View) (E : Environment) (n : Path) → AllEntries V E → there_of V n ≡ not_there → Fresh E n
-fresh_if V E n all q (c, w, e) =
-    let a = all c w in
-    some_none (sym (subst (λ m. find_entry V.entries m ≡ Some a.0) e a.1) ∙ not_entry V n (find_entry V.entries n) q)
+pub fresh_if : (V : View) (E : Environment) (n : Path) → HasEntry V E n → there_of V n ≡ not_there → Fresh E n
+fresh_if V E n has q (c, w, e) = some_none (sym (has c w e).1 ∙ not_entry V n (find_entry V.entries n) q)

@@ -180,22 +180,22 @@ false_beside V E = record { zero = λ e. absurd (other e); operation = λ i j r 
     other : false_name ≡ zero_name → ⊥
     other e = let f : same_path false_name zero_name ≡ same_path zero_name zero_name = ap (λ n. same_path n zero_name) e in no_false f
 
-value_fits : (V : View) (E : Environment) (C : Context) (n : Path) (i j : ℕ) (r : LitOut) → HeldBeside V E n → literal_operation n i j ≡ Some r → Fit V E C (literal_term r)
-value_fits V E C n i j (Nat k) h e = (tt, h.operation i j (Nat k) e)
-value_fits V E C n i j (Truth true) h e = (tt, (h.operation i j (Truth true) e, true_beside V E))
-value_fits V E C n i j (Truth false) h e = (tt, (h.operation i j (Truth false) e, false_beside V E))
+value_fits : (V : View) (E : Environment) (C : Context) (n : Path) (i j : ℕ) (r : LitOut) → Held V E nat → HeldBeside V E n → literal_operation n i j ≡ Some r → Fit V E C (literal_term r)
+value_fits V E C n i j (Nat k) held h e = (tt, held)
+value_fits V E C n i j (Truth true) held h e = (tt, (h.operation i j (Truth true) e, true_beside V E))
+value_fits V E C n i j (Truth false) held h e = (tt, (h.operation i j (Truth false) e, false_beside V E))
 
-operated_sound : (V : View) (E : Environment) (C : Context) (n : Path) (x y : Term) (i j : ℕ) (o : Option LitOut) (rest : Run Progress) (u : ℕ) → HeldBeside V E n → Equal E C x (lit i) → Equal E C y (lit j) → literal_operation n i j ≡ o
+operated_sound : (V : View) (E : Environment) (C : Context) (n : Path) (x y : Term) (i j : ℕ) (o : Option LitOut) (rest : Run Progress) (u : ℕ) → Held V E nat → HeldBeside V E n → Equal E C x (lit i) → Equal E C y (lit j) → literal_operation n i j ≡ o
     → Formed E C (app (app (const n []) x) y) → Post (Goes V E C (app (app (const n []) x) y)) (rest u) → Post (Goes V E C (app (app (const n []) x) y)) (operated o rest u)
-operated_sound V E C n x y i j (Some r) rest u hb ex ey q ft h =
+operated_sound V E C n x y i j (Some r) rest u held hb ex ey q ft h =
     let on : Term = app (app (const n []) (lit i)) (lit j) in
     let p : Equal E C (app (app (const n []) x) y) on = applications (applications (reflexive (const n [])) ex) ey in
-    (transitive p (step (operation n i j r q) ((tt, tt), tt) (equal_to ft p)), value_fits V E C n i j r hb q)
-operated_sound V E C n x y i j None rest u hb ex ey q ft h = h
+    (transitive p (step (operation n i j r q) ((tt, tt), tt) (equal_to ft p)), value_fits V E C n i j r held hb q)
+operated_sound V E C n x y i j None rest u held hb ex ey q ft h = h
 
 numbers_sound : (V : View) (E : Environment) (C : Context) (n : Path) (x y : Term) (p q : Option ℕ) (rest : Run Progress) (u : ℕ) → HeldBeside V E n → NumberIs V E C x p → NumberIs V E C y q
     → Formed E C (app (app (const n []) x) y) → Post (Goes V E C (app (app (const n []) x) y)) (rest u) → Post (Goes V E C (app (app (const n []) x) y)) (on_numbers n p q rest u)
-numbers_sound V E C n x y (Some i) (Some j) rest u hb ex ey ft h = operated_sound V E C n x y i j (literal_operation n i j) rest u hb ex.0 ey.0 refl ft h
+numbers_sound V E C n x y (Some i) (Some j) rest u hb ex ey ft h = operated_sound V E C n x y i j (literal_operation n i j) rest u ex.1 hb ex.0 ey.0 refl ft h
 numbers_sound V E C n x y (Some i) None rest u hb ex ey ft h = h
 numbers_sound V E C n x y None q rest u hb ex ey ft h = h
 

@@ -31,11 +31,11 @@ abbrev pub false_name : Path
 false_name = codes "Bool" ∷ codes "false" ∷ []
 
 abbrev pub HeldValue : View → Environment → LitOut → Type 0
-HeldValue V E (Nat k) = Held V E nat
+HeldValue V E (Nat k) = Unit {0}
 HeldValue V E (Bool true) = Held V E true_name
 HeldValue V E (Bool false) = Held V E false_name
 
--- What counts as named beside a constant: `Nat` with `Nat.zero`, and with an operation what it gives.
+-- What counts as named beside a constant: `Nat` with `Nat.zero`, and the truth values with `Nat.beq` and `Nat.ble`.
 pub record HeldBeside (V : View) (E : Environment) (n : Path) : Type 0 where
   pub zero : n ≡ zero_name → Held V E nat
   pub operation : (i j : ℕ) (r : LitOut) → literal_operation n i j ≡ Some r → HeldValue V E r
