@@ -42,6 +42,7 @@ refusals = record {
   loose_in_type = refl;
   variable_in_constructor = refl;
   metavariable_in_constructor = refl;
+  variable_under_a_taken_name = refl;
   type_is_there = refl;
   type_is_in_base = refl;
   constructor_is_there = refl;
@@ -50,4 +51,5 @@ refusals = record {
   constructor_as_type = refl;
   constructor_as_recursor = refl;
   first_twice = refl;
+  twice_before_waiting = refl;
 }

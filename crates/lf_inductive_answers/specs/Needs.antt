@@ -20,6 +20,6 @@ pub record Needs : Type 0 where
   pub child_in_field : Waits (with_mk (pi (explicit "x") (const (dotted "f" "aux") []) (at "T"))) (Body 3)
   -- mk (x : h.eq_1) : T: it may still be made
   pub realized_in_field : Waits (with_mk (pi (explicit "x") (const (dotted "h" "eq_1") []) (at "T"))) (Real (dotted "h" "eq_1"))
-  -- names under f: of the type, and of a constructor behind one that comes twice or not
+  -- names under f: of the type, and of a constructor behind one that is new
   pub child_as_type : Waits (empty_of_name (dotted "f" "aux")) (Body 3)
   pub child_as_constructor : Waits (with_names (dotted "T" "a" ∷ dotted "f" "aux" ∷ [])) (Body 3)

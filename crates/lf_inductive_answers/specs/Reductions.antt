@@ -29,6 +29,10 @@ nat_rec M z s n = two (two (const (dotted "Nat" "rec") (one ∷ [])) M z) s n
 abbrev pub on : Term → Term
 on n = nat_rec (free 0) (free 1) (free 2) n
 
+-- at no level, where one is wanted
+abbrev pub without_level : Term → Term
+without_level n = two (two (const (dotted "Nat" "rec") []) (free 0) (free 1)) (free 2) n
+
 -- Nat.rec (fun x => Nat) 0 (fun x ih => Nat.succ ih) n
 abbrev pub counted_again : Term → Term
 counted_again n = nat_rec (lam (explicit "x") nat nat) (lit 0) (lam (explicit "x") nat (lam (explicit "ih") nat (app nat_succ (bound 0)))) n
@@ -115,11 +119,11 @@ pub record Reductions : Type 0 where
   pub at_literal : whnf V 512 [] (on (lit 2)) 143 ≡ done (two (free 2) (lit 1) (on (lit 1))) 0
   pub at_zero : whnf V 512 [] (on nat_zero) 62 ≡ done (free 1) 0
   pub at_zero_literal : whnf V 512 [] (on (lit 0)) 62 ≡ done (free 1) 0
-  -- stuck: a variable, a successor of nothing, the constructor of another type, no level
+  -- stuck: a variable, a successor of nothing, the constructor of another type, all arguments at no level
   pub at_variable : reduced (nat ∷ []) (on (free 0)) ≡ Some (on (free 0))
   pub no_argument : reduced [] (on nat_succ) ≡ Some (on nat_succ)
   pub another_type : reduced [] (on (app (list_word "nil") nat)) ≡ Some (on (app (list_word "nil") nat))
-  pub no_level : reduced [] (app (const (dotted "Nat" "rec") []) nat_zero) ≡ Some (app (const (dotted "Nat" "rec") []) nat_zero)
+  pub no_level : reduced [] (without_level nat_zero) ≡ Some (without_level nat_zero)
   -- equality by its rule
   pub along_refl : reduced [] (transport (free 0) (free 1) (free 2) (free 3) (free 1) (refl_at (free 0) (free 1))) ≡ Some (free 3)
   -- a variable proof of a = a gives way to `Eq.refl`, and one of a = b doesn't

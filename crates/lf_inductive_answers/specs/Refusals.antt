@@ -63,6 +63,7 @@ pub record Refusals : Type 0 where
   pub loose_in_type : refusal nothing bound_in_type ≡ for not_closed []
   pub variable_in_constructor : refusal nothing free_in_constructor ≡ for not_closed []
   pub metavariable_in_constructor : refusal nothing meta_in_constructor ≡ for not_closed []
+  pub variable_under_a_taken_name : refusal document (record { name = word "f"; levels = []; params = 0; ty = free 0; ctors = [] }) ≡ for not_closed []
   -- names that are there: of the type, of a constructor, of the recursor, each at its entry's place
   pub type_is_there : refusal document (empty_of_name (word "f")) ≡ for (duplicate (word "f") 3) []
   pub type_is_in_base : refusal document (empty_of_name (word "Nat")) ≡ for (duplicate (word "Nat") base_position) []
@@ -72,5 +73,6 @@ pub record Refusals : Type 0 where
   pub constructor_twice : refusal document (with_names (dotted "T" "a" ∷ dotted "T" "b" ∷ dotted "T" "a" ∷ [])) ≡ for (duplicate (dotted "T" "a") 7) []
   pub constructor_as_type : refusal document (with_names (word "T" ∷ [])) ≡ for (duplicate (word "T") 7) []
   pub constructor_as_recursor : refusal document (with_names (dotted "T" "rec" ∷ [])) ≡ for (duplicate (dotted "T" "rec") 7) []
-  -- the first of two
+  -- the first of two faults; a name that comes twice is refused before a later one waits
   pub first_twice : refusal document (with_names (dotted "T" "a" ∷ dotted "T" "a" ∷ word "g" ∷ [])) ≡ for (duplicate (dotted "T" "a") 7) []
+  pub twice_before_waiting : refusal document (with_names (dotted "T" "a" ∷ dotted "T" "a" ∷ dotted "f" "aux" ∷ [])) ≡ for (duplicate (dotted "T" "a") 7) []
