@@ -74,8 +74,8 @@ abbrev pub ProofsOrIndices : ℕ → List Universe → List Term → Type 0
 ProofsOrIndices k [] is = Unit {0}
 ProofsOrIndices k (l ∷ ls) is = (Same l level_zero ⊎ Contains is (free k)) × ProofsOrIndices (suc k) ls is
 
--- It may eliminate into every sort: it is never a proposition, or has no constructor, or one that holds nothing but proofs and what the
--- indices tell.
+-- Large elimination, into every sort: the type is never a proposition, or it has no constructor, or one whose fields are proofs or are
+-- themselves indices.
 abbrev pub EliminatesEverywhere : (E : Environment) (f : Family) (r : Universe) (cs : List CtorInfo) → ConstructorsRight E f r cs → Type 0
 EliminatesEverywhere E f r [] right = Unit {0}
 EliminatesEverywhere E f r (c ∷ []) right = NeverZero r ⊎ ProofsOrIndices (length f.params) right.0.levels right.0.indices

@@ -22,7 +22,7 @@ pub record Case : Type 0 where
 
 pub record Family : Type 0 where
   pub name : Path
-  -- those at which the type stands in these terms
+  -- the levels at which the type stands in these terms
   pub levels : List Universe
   pub params : Telescope
   -- pis over the indices, and then a sort
@@ -63,15 +63,15 @@ named word = word ∷ []
 abbrev pub motive : Family → Term
 motive f = free (length f.params)
 
--- A member t of the type at indices that begin at k.
-abbrev pub target : Family → ℕ → Telescope → Local
-target f k is = record { binder = record { name = named (codes "t"); kind = Explicit }; ty = apply (self f) (variables k is) }
+-- The major premise, a member t of the type at indices that begin at k.
+abbrev pub major : Family → ℕ → Telescope → Local
+major f k is = record { binder = record { name = named (codes "t"); kind = Explicit }; ty = apply (self f) (variables k is) }
 
 abbrev pub motive_local : Family → Universe → Local
 motive_local f s =
     let p : ℕ = length f.params in
     let is : Telescope = (open_all p f.rest).locals in
-    record { binder = record { name = named (codes "motive"); kind = Implicit }; ty = pis_over p (explicit is ++ target f p is ∷ []) (sort s) }
+    record { binder = record { name = named (codes "motive"); kind = Implicit }; ty = pis_over p (explicit is ++ major f p is ∷ []) (sort s) }
 
 -- The motive at the indices of the type t, and at a member x of it.
 abbrev pub motive_at : Family → Term → Term → Term
@@ -117,7 +117,7 @@ abbrev pub minors : Family → List Case → Telescope
 minors f [] = []
 minors f (c ∷ cs) = record { binder = record { name = last_part c.constructor; kind = Explicit }; ty = minor_type f c } ∷ minors f cs
 
--- ---- The type: parameters, motive and minor premises, which its rules share, and then indices and a member.
+-- ---- The type: parameters, motive and minor premises, which its rules share, and then indices and the major premise.
 
 abbrev pub shared : Family → Universe → Telescope
 shared f s = implicit f.params ++ motive_local f s ∷ minors f f.cases
@@ -126,7 +126,7 @@ abbrev pub recursor_type : Family → Universe → Term
 recursor_type f s =
     let q : ℕ = length (shared f s) in
     let is : Telescope = (open_all q f.rest).locals in
-    pis_over 0 (shared f s ++ implicit is ++ target f q is ∷ []) (apply (motive f) (variables q is ++ free (q + length is) ∷ []))
+    pis_over 0 (shared f s ++ implicit is ++ major f q is ∷ []) (apply (motive f) (variables q is ++ free (q + length is) ∷ []))
 
 -- ---- The rules: a minor premise at the fields, and at what the recursor gives for the recursive ones.
 

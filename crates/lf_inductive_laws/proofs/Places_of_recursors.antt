@@ -5,7 +5,7 @@ use Rattle.lf_core.specs.Term.{Universe, Term, free, sort, const, pi}
 use Rattle.lf_core.specs.Spine.{apply, arguments_of}
 use Rattle.lf_core.specs.Environment.{Declared, ParametersBelow, AllParametersBelow}
 use Rattle.lf_core.specs.Telescope.{Telescope, variables, pi_count, open_all, implicit, explicit}
-use Rattle.lf_core.specs.Recursor.{Case, Family, self, indices_of, is_recursive, motive, target, motive_local, motive_at, innermost, hypothesis, hypotheses, minor_type, minors, shared, recursor_type, Called, recursive_call, recursive_calls, rule, rules}
+use Rattle.lf_core.specs.Recursor.{Case, Family, self, indices_of, is_recursive, motive, major, motive_local, motive_at, innermost, hypothesis, hypotheses, minor_type, minors, shared, recursor_type, Called, recursive_call, recursive_calls, rule, rules}
 use Rattle.lf_core.specs.declared.binder.BinderKind.TheVariants.{Explicit, Implicit}
 use Rattle.lf_inductive_laws.proofs.Places.{Place, Lies, lies_up}
 use Rattle.lf_inductive_laws.proofs.Places_of_telescopes.{AllLie, all_lie_append, all_lie_drop, all_lie_up, lies_apply, all_arguments_lie, variables_lie, innermost_lie, Stands, stands_append, stands_both, stands_of_kind, length-of_kind, lies_pis_over, lies_lambdas_over, Opens, opens}
@@ -29,19 +29,19 @@ indices_lie p f d l t h = all_lie_drop p d l (length f.params) (arguments_of t) 
 
 -- ---- The motive.
 
-target_lies : (p : Place) (f : Family) (k : ℕ) (is : Telescope) → FamilyLies p f → length f.params ≤ k → Lies p 0 (k + length is) (target f k is).ty
-target_lies p f k is h e = lies_apply p 0 (k + length is) (self f) (variables k is) (self_lies p f 0 (k + length is) h (omega arith)) (variables_lie p 0 k (k + length is) is (omega arith))
+major_lies : (p : Place) (f : Family) (k : ℕ) (is : Telescope) → FamilyLies p f → length f.params ≤ k → Lies p 0 (k + length is) (major f k is).ty
+major_lies p f k is h e = lies_apply p 0 (k + length is) (self f) (variables k is) (self_lies p f 0 (k + length is) h (omega arith)) (variables_lie p 0 k (k + length is) is (omega arith))
 
 -- Indices of some kind, and then a member.
-stands_target : (p : Place) (f : Family) (k : ℕ) (is js : Telescope) → FamilyLies p f → length f.params ≤ k → length js ≡ length is → Stands p k js → Stands p k (js ++ target f k is ∷ [])
-stands_target p f k is js h e l g = stands_append p k js (target f k is ∷ []) g (subst (λ n. Lies p 0 (k + n) (target f k is).ty) (sym l) (target_lies p f k is h e), tt)
+stands_major : (p : Place) (f : Family) (k : ℕ) (is js : Telescope) → FamilyLies p f → length f.params ≤ k → length js ≡ length is → Stands p k js → Stands p k (js ++ major f k is ∷ [])
+stands_major p f k is js h e l g = stands_append p k js (major f k is ∷ []) g (subst (λ n. Lies p 0 (k + n) (major f k is).ty) (sym l) (major_lies p f k is h e), tt)
 
 motive_local_lies : (p : Place) (f : Family) (s : Universe) → FamilyLies p f → ParametersBelow p.levels s → Lies p 0 (length f.params) (motive_local f s).ty
 motive_local_lies p f s h b =
     let n : ℕ = length f.params in
     let o : Opens p n (pi_count f.rest) (open_all n f.rest) = opens p n (pi_count f.rest) f.rest h.rest in
     let is : Telescope = (open_all n f.rest).locals in
-    lies_pis_over p n (explicit is ++ target f n is ∷ []) (sort s) (stands_target p f n is (explicit is) h (omega arith) (length-of_kind Explicit is) (stands_of_kind p n Explicit is o.locals)) b
+    lies_pis_over p n (explicit is ++ major f n is ∷ []) (sort s) (stands_major p f n is (explicit is) h (omega arith) (length-of_kind Explicit is) (stands_of_kind p n Explicit is o.locals)) b
 
 motive_at_lies : (p : Place) (f : Family) (d l : ℕ) (t x : Term) → suc (length f.params) ≤ l → Lies p d l t → Lies p d l x → Lies p d l (motive_at f t x)
 motive_at_lies p f d l t x e h g = lies_apply p d l (motive f) (indices_of f t ++ x ∷ []) (omega arith) (all_lie_append p d l (indices_of f t) (x ∷ []) (indices_lie p f d l t h) (g, tt))
@@ -106,12 +106,12 @@ recursor_type_lies p f s h b =
     let is : Telescope = (open_all q f.rest).locals in
     let ys : Telescope = shared f s ++ implicit is in
     let e : q + length is ≡ length ys = omega (arith, length-append (shared f s) (implicit is), length-of_kind Implicit is) in
-    let l : ℕ = 0 + length (ys ++ target f q is ∷ []) in
-    let le' : suc (q + length is) ≤ l = omega (arith, length-append ys (target f q is ∷ [])) in
-    lies_pis_over p 0 (ys ++ target f q is ∷ []) (apply (motive f) (variables q is ++ free (q + length is) ∷ []))
-    (stands_both p ys (target f q is ∷ [])
+    let l : ℕ = 0 + length (ys ++ major f q is ∷ []) in
+    let le' : suc (q + length is) ≤ l = omega (arith, length-append ys (major f q is ∷ [])) in
+    lies_pis_over p 0 (ys ++ major f q is ∷ []) (apply (motive f) (variables q is ++ free (q + length is) ∷ []))
+    (stands_both p ys (major f q is ∷ [])
     (stands_both p (shared f s) (implicit is) (shared_stands p f s h b) (stands_of_kind p q Implicit is o.locals))
-    (subst (λ n. Lies p 0 n (target f q is).ty) e (target_lies p f q is h (omega arith)), tt))
+    (subst (λ n. Lies p 0 n (major f q is).ty) e (major_lies p f q is h (omega arith)), tt))
     (lies_apply p 0 l (motive f) (variables q is ++ free (q + length is) ∷ []) (omega arith)
     (all_lie_append p 0 l (variables q is) (free (q + length is) ∷ []) (variables_lie p 0 q l is (omega arith)) (omega arith, tt)))
 
