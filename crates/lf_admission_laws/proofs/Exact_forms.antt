@@ -38,7 +38,7 @@ kind_same Implicit = refl
 binder_same : (x : Binder) → same_binder x x ≡ true
 binder_same x = and_from (same_path x.name x.name) (same_kind x.kind x.kind) (path_same x.name) (kind_same x.kind)
 
-term_same : (t : Term) → same t t ≡ true
+pub term_same : (t : Term) → same t t ≡ true
 term_same (bound k) = eq-eqb k k refl
 term_same (free k) = eq-eqb k k refl
 term_same (meta k) = eq-eqb k k refl
@@ -90,7 +90,7 @@ none_mentioned : (n : Path) (ts : List Term) → AllWithout n ts → any_mention
 none_mentioned n [] h = refl
 none_mentioned n (t ∷ ts) h = or_from (mentions n t) (any_mentions n ts) (not_mentioned n t h.0) (none_mentioned n ts h.1)
 
-passes_at_indices : (f : Family) (t : Term) (is : List Term) → AtIndices f t is → is_at_indices f t ≡ true
+pub passes_at_indices : (f : Family) (t : Term) (is : List Term) → AtIndices f t is → is_at_indices f t ≡ true
 passes_at_indices f t is a =
     let e : indices_of f t ≡ is = indices_are f t is a in
     let js : List Term = indices_of f t in
@@ -110,8 +110,11 @@ self_no_pi : (n : Path) (ls : List Universe) (xs : List Term) {x : Binder} {A B 
 self_no_pi n ls [] e = absurd (cc)
 self_no_pi n ls (y ∷ ys) e = no_pi (const n ls) y ys e
 
+pub end_no_pi : (f : Family) {x : Binder} {A B : Term} {is : List Term} {P : Type 0} → AtIndices f (pi x A B) is → P
+end_no_pi f {is = is} a = self_no_pi f.name f.levels (variables 0 f.params ++ is) (apply-append (const f.name f.levels) (variables 0 f.params) is ∙ sym a.form)
+
 ends_as_tested : (f : Family) (t : Term) → is_at_indices f t ≡ true → (is : List Term) → AtIndices f t is → ends_at_indices f t ≡ true
-ends_as_tested f (pi x A B) e is a = self_no_pi f.name f.levels (variables 0 f.params ++ is) (apply-append (const f.name f.levels) (variables 0 f.params) is ∙ sym a.form)
+ends_as_tested f (pi x A B) e is a = end_no_pi f a
 ends_as_tested f (bound i) e is a = e
 ends_as_tested f (free k) e is a = e
 ends_as_tested f (meta k) e is a = e
@@ -126,7 +129,7 @@ passes_recursive : (f : Family) {A : Term} → Recursive f A → ends_at_indices
 passes_recursive f (at_indices {t = t} is a) = ends_as_tested f t (passes_at_indices f t is a) is a
 passes_recursive f (over {A = A} {B = B} w r) = and_from (not (mentions f.name A)) (ends_at_indices f B) (not_from_false (mentions f.name A) (not_mentioned f.name A w)) (passes_recursive f r)
 
-passes_positive : (f : Family) (A : Term) → Positive f A → is_positive f A ≡ true
+pub passes_positive : (f : Family) (A : Term) → Positive f A → is_positive f A ≡ true
 passes_positive f A (inl w) = or_left (not (mentions f.name A)) (ends_at_indices f A) (not_from_false (mentions f.name A) (not_mentioned f.name A w))
 passes_positive f A (inr r) = or_right (not (mentions f.name A)) (ends_at_indices f A) (passes_recursive f r)
 

@@ -6,3 +6,4 @@ pub mod New_names
 pub mod Accepted
 pub mod All
 pub mod Exact_forms
+pub mod Kept_out

@@ -1,2 +1,3 @@
 pub mod Admission
 pub mod Forms
+pub mod Kept_out

@@ -3,10 +3,16 @@
 
 ghost use Rattle.lf_admission_laws.specs.Admission.{AdmissionIsSound};
 ghost use Rattle.lf_admission_laws.specs.Forms.{FormTestsAreExact};
+ghost use Rattle.lf_admission_laws.specs.Kept_out.{RulesKeepOut};
 
 /// The tests of form pass just what the rules of admission ask for.
 pub fn tests_of_form_are_exact()
     ensures { FormTestsAreExact }
+{}
+
+/// The rules of admission keep out wrong declarations, in whatever environment.
+pub fn rules_keep_out_wrong_declarations()
+    ensures { RulesKeepOut }
 {}
 
 /// What `add_inductive` accepts over a derived list, of a declaration that names only the list and its own type, is admitted and keeps the

@@ -1,5 +1,5 @@
 -- What is accepted over a derived environment keeps it derived.
-use Rattle.std.proofs.Common.{◌≡◌, ◌⊎◌, ℕ, Bool, true, ◌&&◌, [], ◌∷◌, ◌++◌, length, sym, subst, Some, None}
+use Rattle.std.proofs.Common.{◌≡◌, ◌⊎◌, ℕ, Bool, true, ◌&&◌, [], ◌∷◌, ◌++◌, length, sym, subst, Some}
 use Rattle.std.proofs.lemmas.Bool.{and_parts}
 use Rattle.lf_core.specs.Term.{Path, Universe, Term, sort}
 use Rattle.lf_core.specs.Scope.{Scoped}
@@ -7,7 +7,7 @@ use Rattle.lf_core.specs.Environment.{Environment, Fresh, NamesDeclared, LevelsB
 use Rattle.lf_core.specs.Judgment.{Equal, HasType, conversion, has_type, is_type}
 use Rattle.lf_core.specs.Derived.{Stated, Derived, with_axiom, with_value}
 use Rattle.lf_core.specs.declared.constant.ConstInfo.{ConstInfo}
-use Rattle.lf_core.specs.declared.constant.ConstKind.TheVariants.{Axiom, Def, Theorem}
+use Rattle.lf_core.specs.declared.constant.ConstKind.TheVariants.{Def, Theorem}
 use Rattle.lf_core.specs.declared.constant.Detail.TheVariants.{Plain}
 use Rattle.lf_env.specs.View.{View, there_of}
 use Rattle.lf_env.specs.Run.{Run, refuse, choose, not_closed, wrong_value}

@@ -1,5 +1,5 @@
 -- What the tests before a declaration tell: its terms are closed, and its name is new.
-use Rattle.std.proofs.Common.{◌≡◌, ℕ, suc, true, ◌&&◌, refl, sym, subst, ◌∙◌, Option, Some, None}
+use Rattle.std.proofs.Common.{◌≡◌, ℕ, suc, true, ◌&&◌, refl, sym, ◌∙◌, Option, Some, None}
 use Rattle.std.proofs.lemmas.Bool.{ltb-true, and_parts}
 use Rattle.lf_core.specs.Term.{Path, Term, bound, free, meta, sort, const, app, lam, pi, letin, lit}
 use Rattle.lf_core.specs.Scope.{Scoped}
