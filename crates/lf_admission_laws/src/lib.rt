@@ -10,7 +10,7 @@ pub fn tests_of_form_are_exact()
     ensures { FormTestsAreExact }
 {}
 
-/// The rules of admission keep out wrong declarations, in whatever environment.
+/// The rules of admission keep these worked declarations out, in whatever environment.
 pub fn rules_keep_out_wrong_declarations()
     ensures { RulesKeepOut }
 {}
