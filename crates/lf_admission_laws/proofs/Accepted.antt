@@ -38,10 +38,10 @@ put_all_sound : {A : Type 0} (Q : A → Type 0) (ts : List Term) (m : Run A) (u 
 put_all_sound Q [] m u h = h u
 put_all_sound Q (t ∷ ts) m u h = post_then (λ s. Unit {0}) Q _ _ (post_put (λ s. Unit {0}) t u tt) λ s v z. put_all_sound Q ts m v h
 
-given_sound : (Q : List ConstInfo → Type 0) (d : IndDecl) (large : Bool) (u : ℕ) → Q (declared d large) → Post Q (given d large u)
+pub given_sound : (Q : List ConstInfo → Type 0) (d : IndDecl) (large : Bool) (u : ℕ) → Q (declared d large) → Post Q (given d large u)
 given_sound Q d large u h = put_all_sound Q (recursor_type (recursor_family d large) (motive_level large) ∷ recursor_rules d large) (gives (declared d large)) u (λ v. h)
 
-on_result_sound : {A : Type 0} (Q : A → Type 0) (o : Option Universe) (f : Universe → Run A) (u : ℕ) → ((r : Universe) → o ≡ Some r → Post Q (f r u)) → Post Q (on_result o f u)
+pub on_result_sound : {A : Type 0} (Q : A → Type 0) (o : Option Universe) (f : Universe → Run A) (u : ℕ) → ((r : Universe) → o ≡ Some r → Post Q (f r u)) → Post Q (on_result o f u)
 on_result_sound Q (Some r) f u h = h r refl
 on_result_sound Q None f u h = tt
 

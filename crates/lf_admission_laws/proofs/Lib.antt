@@ -7,3 +7,4 @@ pub mod Accepted
 pub mod All
 pub mod Exact_forms
 pub mod Kept_out
+pub mod Eliminates

@@ -2,8 +2,14 @@
 #![tactic(auto)]
 
 ghost use Rattle.lf_admission_laws.specs.Admission.{AdmissionIsSound};
+ghost use Rattle.lf_admission_laws.specs.Elimination.{EliminatesAsAsked};
 ghost use Rattle.lf_admission_laws.specs.Forms.{FormTestsAreExact};
 ghost use Rattle.lf_admission_laws.specs.Kept_out.{RulesKeepOut};
+
+/// A declaration that is accepted eliminates into every sort where it is never a proposition or has no constructor.
+pub fn types_eliminate_into_every_sort()
+    ensures { EliminatesAsAsked }
+{}
 
 /// The tests of form pass just what the rules of admission ask for.
 pub fn tests_of_form_are_exact()

@@ -148,7 +148,7 @@ order_is l m o o' d d' n =
     cond-false (has_metavariable l || has_metavariable m) (same_universe l m) _ (or_from (has_metavariable l) (has_metavariable m) (found_none l o) (found_none m o'))
     ∙ cond-false (is_too_great l m) false (one_order l m) (within l m d d' n)
 
-order_exact : (l m : Universe) → HasNoMetavariable l → HasNoMetavariable m → level_depth l ≤ 1024 → level_depth m ≤ 1024 → length (parameters_of l m) ≤ 8 → (is_at_most l m ≡ true) ↔ Leq l m
+pub order_exact : (l m : Universe) → HasNoMetavariable l → HasNoMetavariable m → level_depth l ≤ 1024 → level_depth m ≤ 1024 → length (parameters_of l m) ≤ 8 → (is_at_most l m ≡ true) ↔ Leq l m
 order_exact l m o o' d d' n = leq_answer l m (parameters_of l m) (is_at_most l m) refl o o' d' (order_is l m o o' d d' n)
 
 pub level_test_is_exact : LevelTestIsExact
