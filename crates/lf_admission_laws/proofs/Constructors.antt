@@ -2,12 +2,12 @@
 use Rattle.std.proofs.Common.{ℕ, zero, suc, List, [], ◌∷◌, length, subst}
 use Rattle.lf_core.specs.Term.{Universe, level_imax, Term, sort, pi}
 use Rattle.lf_core.specs.Scope.{Scoped}
-use Rattle.lf_core.specs.Environment.{Environment, Context, with, opened}
-use Rattle.lf_core.specs.Judgment.{HasType, pi_type, conversion}
-use Rattle.lf_core.specs.Telescope.{Telescope, types, open_pis}
-use Rattle.lf_core.specs.Recursor.{Family}
-use Rattle.lf_core.specs.Inductive.{Fields, end, field, Constructs, fields, parameter}
-use Rattle.lf_core.specs.declared.binder.Binder.{Binder}
+use Rattle.lf_rules.specs.Environment.{Environment, Context, with, opened}
+use Rattle.lf_rules.specs.Judgment.{HasType, pi_type, conversion}
+use Rattle.lf_rules.specs.Telescope.{Telescope, types, open_pis}
+use Rattle.lf_rules.specs.Recursor.{Family}
+use Rattle.lf_rules.specs.Inductive.{Fields, end, field, Constructs, fields, parameter}
+use Rattle.lf_name.specs.declared.binder.Binder.{Binder}
 use Rattle.lf_judgment_laws.specs.Growth.{Grows}
 use Rattle.lf_judgment_laws.proofs.Grows.{relations_grow}
 use Rattle.lf_judgment_laws.proofs.Variables.{length-with, scoped_opened}
@@ -16,13 +16,15 @@ use Rattle.lf_inductive_laws.specs.Telescopes.{InSorts}
 abbrev pub IsType : Environment → Context → Term → Type 0
 IsType E C t = (l : Universe) × HasType E C t (sort l)
 
-pub fields_typed : {E : Environment} {f : Family} {r : Universe} {C : Context} {t : Term} {ls : List Universe} {is : List Term} → Fields E f r C t ls is → Scoped 0 (length C) t → IsType E C t
+pub fields_typed : {E : Environment} {f : Family} {r : Universe} {C : Context} {t : Term} {ls : List Universe} {is : List Term} → Fields E f r C t ls is
+    → Scoped 0 (length C) t → IsType E C t
 fields_typed (end l a h) s = (l, h)
 fields_typed {C = C} (field {A = A} {B = B} l h p q g) s =
     let r = fields_typed g (scoped_opened C A B s.1) in
     (level_imax l r.0, pi_type l r.0 h s.1 r.1)
 
-pub constructs_typed : {E : Environment} {f : Family} {r : Universe} {xs : Telescope} {C : Context} {t : Term} {ls : List Universe} {is : List Term} → Constructs E f r xs C t ls is → InSorts E C (types xs) → Scoped 0 (length C) t → IsType E C t
+pub constructs_typed : {E : Environment} {f : Family} {r : Universe} {xs : Telescope} {C : Context} {t : Term} {ls : List Universe} {is : List Term}
+    → Constructs E f r xs C t ls is → InSorts E C (types xs) → Scoped 0 (length C) t → IsType E C t
 constructs_typed (fields g) h s = fields_typed g s
 constructs_typed {E = E} {C = C} (parameter {xs = xs} {A = A} {B = B} e g) h s =
     let d : IsType E C A = subst (IsType E C) e h.0 in

@@ -1,21 +1,70 @@
 -- What the rules ask for passes the tests of form.
-use Rattle.std.proofs.Common.{◌≡◌, inl, inr, ℕ, suc, true, false, not, ◌&&◌, ◌||◌, nat_eq, List, [], ◌∷◌, ◌++◌, append-nil, length, drop, refl, sym, ap, subst, ◌∙◌}
+use Rattle.std.proofs.Common.{
+  ◌≡◌,
+  inl,
+  inr,
+  ℕ,
+  suc,
+  true,
+  false,
+  not,
+  ◌&&◌,
+  ◌||◌,
+  ◌==◌,
+  nat_eq,
+  List,
+  [],
+  ◌∷◌,
+  ◌++◌,
+  append-nil,
+  length,
+  drop,
+  refl,
+  sym,
+  ap,
+  subst,
+  ◌∙◌,
+}
 use Rattle.std.proofs.lemmas.Bool.{and_from, or_from, or_left, or_right, not_from_false, false_from_ne_true, eq-eqb}
-use Rattle.lf_core.specs.Term.{Path, Universe, level_zero, level_succ, level_max, level_imax, level_param, level_meta, Term, bound, free, meta, sort, const, app, lam, pi, letin, lit}
+use Rattle.lf_core.specs.Term.{
+  Path,
+  Universe,
+  level_zero,
+  level_succ,
+  level_max,
+  level_imax,
+  level_param,
+  level_meta,
+  Term,
+  bound,
+  free,
+  meta,
+  sort,
+  const,
+  app,
+  lam,
+  pi,
+  letin,
+  lit,
+  proj,
+}
 use Rattle.lf_core.specs.Same.{same_path, same_universe, same_universes, same_kind, same_binder, same}
 use Rattle.lf_core.specs.Spine.{apply, arguments_before, arguments_of}
-use Rattle.lf_core.specs.Telescope.{Telescope, variables, pi_count}
-use Rattle.lf_core.specs.Recursor.{Family, self, indices_of}
-use Rattle.lf_core.specs.Inductive.{Without, AllWithout, AtIndices, Recursive, at_indices, over, Positive}
-use Rattle.lf_core.specs.declared.binder.Binder.{Binder}
-use Rattle.lf_core.specs.declared.binder.BinderKind.{BinderKind}
-use Rattle.lf_core.specs.declared.binder.BinderKind.TheVariants.{Explicit, Implicit}
+use Rattle.lf_rules.specs.Structure.{Without}
+use Rattle.lf_rules.specs.Telescope.{Telescope, variables, pi_count}
+use Rattle.lf_rules.specs.Recursor.{Family, self, indices_of}
+use Rattle.lf_rules.specs.Inductive.{AllWithout, AtIndices, Recursive, at_indices, over, Positive}
+use Rattle.lf_name.specs.declared.binder.Binder.{Binder}
+use Rattle.lf_name.specs.declared.binder.BinderKind.{BinderKind}
+use Rattle.lf_name.specs.declared.binder.BinderKind.TheVariants.{Explicit, Implicit, Inst}
 use Rattle.lf_judgment_laws.proofs.Variables.{apply-append}
-use Rattle.lf_env.specs.Admission.{mentions, any_mentions, is_at_indices, ends_at_indices, is_positive}
-use Rattle.lf_env.specs.Names.{path_is}
-use Rattle.lf_checker_laws.proofs.Tests.{term_is}
+use Rattle.lf_checker.specs.Structures.{mentions}
+use Rattle.lf_checker.specs.Admission.{any_mentions, is_at_indices, ends_at_indices, is_positive}
+use Rattle.lf_name.proofs.Names.{path_is}
+use Rattle.lf_core.proofs.Trees.{term_is}
 use Rattle.lf_admission_laws.specs.Forms.{FormTestsAreExact}
-use Rattle.lf_admission_laws.proofs.Forms.{path_same, at_indices_is, positive_is}
+use Rattle.lf_checker_laws.proofs.Structures.{path_same}
+use Rattle.lf_admission_laws.proofs.Forms.{at_indices_is, positive_is}
 
 -- ---- The same tree.
 
@@ -34,6 +83,7 @@ universes_same (l ∷ ls) = and_from (same_universe l l) (same_universes ls ls) 
 kind_same : (k : BinderKind) → same_kind k k ≡ true
 kind_same Explicit = refl
 kind_same Implicit = refl
+kind_same Inst = refl
 
 binder_same : (x : Binder) → same_binder x x ≡ true
 binder_same x = and_from (same_path x.name x.name) (same_kind x.kind x.kind) (path_same x.name) (kind_same x.kind)
@@ -48,8 +98,10 @@ term_same (app f a) = and_from (same f f) (same a a) (term_same f) (term_same a)
 term_same (lam x A b) = and_from (same_binder x x && same A A) (same b b) (and_from (same_binder x x) (same A A) (binder_same x) (term_same A)) (term_same b)
 term_same (pi x A b) = and_from (same_binder x x && same A A) (same b b) (and_from (same_binder x x) (same A A) (binder_same x) (term_same A)) (term_same b)
 term_same (letin x A v b) =
-    and_from (same_binder x x && same A A && same v v) (same b b) (and_from (same_binder x x && same A A) (same v v) (and_from (same_binder x x) (same A A) (binder_same x) (term_same A)) (term_same v)) (term_same b)
+    and_from (same_binder x x && same A A && same v v) (same b b)
+    (and_from (same_binder x x && same A A) (same v v) (and_from (same_binder x x) (same A A) (binder_same x) (term_same A)) (term_same v)) (term_same b)
 term_same (lit n) = eq-eqb n n refl
+term_same (proj s i t) = and_from (same_path s s && (i == i)) (same t t) (and_from (same_path s s) (i == i) (path_same s) (eq-eqb i i refl)) (term_same t)
 
 -- ---- The type at indices.
 
@@ -68,7 +120,8 @@ drop_front (x ∷ xs) ys = drop_front xs ys
 indices_apply : (f : Family) (is : List Term) → indices_of f (apply (self f) is) ≡ is
 indices_apply f is =
     let vs : List Term = variables 0 f.params in
-    let e : arguments_of (apply (self f) is) ≡ vs ++ is = arguments_apply (self f) is [] ∙ arguments_apply (const f.name f.levels) vs (is ++ []) ∙ ap (λ ys. vs ++ ys) (append-nil is) in
+    let e : arguments_of (apply (self f) is) ≡ vs ++ is = arguments_apply (self f) is [] ∙ arguments_apply (const f.name f.levels) vs (is ++ []) ∙
+    ap (λ ys. vs ++ ys) (append-nil is) in
     ap (drop (length f.params)) e ∙ ap (λ n. drop n (vs ++ is)) (sym (length_variables 0 f.params)) ∙ drop_front vs is
 
 indices_are : (f : Family) (t : Term) (is : List Term) → AtIndices f t is → indices_of f t ≡ is
@@ -79,7 +132,9 @@ not_mentioned n (const c ls) h = false_from_ne_true (same_path c n) (λ e. h (pa
 not_mentioned n (app f a) h = or_from (mentions n f) (mentions n a) (not_mentioned n f h.0) (not_mentioned n a h.1)
 not_mentioned n (lam x A b) h = or_from (mentions n A) (mentions n b) (not_mentioned n A h.0) (not_mentioned n b h.1)
 not_mentioned n (pi x A B) h = or_from (mentions n A) (mentions n B) (not_mentioned n A h.0) (not_mentioned n B h.1)
-not_mentioned n (letin x A v b) h = or_from (mentions n A) (mentions n v || mentions n b) (not_mentioned n A h.0) (or_from (mentions n v) (mentions n b) (not_mentioned n v h.1) (not_mentioned n b h.2))
+not_mentioned n (letin x A v b) h = or_from (mentions n A) (mentions n v || mentions n b) (not_mentioned n A h.0)
+    (or_from (mentions n v) (mentions n b) (not_mentioned n v h.1) (not_mentioned n b h.2))
+not_mentioned n (proj s i t) h = or_from (same_path s n) (mentions n t) (false_from_ne_true (same_path s n) (λ e. h.0 (path_is s n e))) (not_mentioned n t h.1)
 not_mentioned n (bound i) h = refl
 not_mentioned n (free k) h = refl
 not_mentioned n (meta k) h = refl
@@ -96,8 +151,10 @@ passes_at_indices f t is a =
     let js : List Term = indices_of f t in
     let form : same t (apply (self f) js) ≡ true = subst (λ s. same t s ≡ true) (a.form ∙ ap (apply (self f)) (sym e)) (term_same t) in
     let whole : nat_eq (length js) (pi_count f.rest) ≡ true = eq-eqb (length js) (pi_count f.rest) (ap (λ xs. length xs) e ∙ a.whole) in
-    let nowhere : not (any_mentions f.name js) ≡ true = not_from_false (any_mentions f.name js) (none_mentioned f.name js (subst (AllWithout f.name) (sym e) a.nowhere)) in
-    and_from (same t (apply (self f) js)) (nat_eq (length js) (pi_count f.rest) && not (any_mentions f.name js)) form (and_from (nat_eq (length js) (pi_count f.rest)) (not (any_mentions f.name js)) whole nowhere)
+    let nowhere : not (any_mentions f.name js) ≡ true = not_from_false (any_mentions f.name js)
+    (none_mentioned f.name js (subst (AllWithout f.name) (sym e) a.nowhere)) in
+    and_from (same t (apply (self f) js)) (nat_eq (length js) (pi_count f.rest) && not (any_mentions f.name js)) form
+    (and_from (nat_eq (length js) (pi_count f.rest)) (not (any_mentions f.name js)) whole nowhere)
 
 -- ---- Positive fields.
 
@@ -124,10 +181,12 @@ ends_as_tested f (app g x) e is a = e
 ends_as_tested f (lam x A b) e is a = e
 ends_as_tested f (letin x A v b) e is a = e
 ends_as_tested f (lit k) e is a = e
+ends_as_tested f (proj s i t) e is a = e
 
 passes_recursive : (f : Family) {A : Term} → Recursive f A → ends_at_indices f A ≡ true
 passes_recursive f (at_indices {t = t} is a) = ends_as_tested f t (passes_at_indices f t is a) is a
-passes_recursive f (over {A = A} {B = B} w r) = and_from (not (mentions f.name A)) (ends_at_indices f B) (not_from_false (mentions f.name A) (not_mentioned f.name A w)) (passes_recursive f r)
+passes_recursive f (over {A = A} {B = B} w r) = and_from (not (mentions f.name A)) (ends_at_indices f B)
+    (not_from_false (mentions f.name A) (not_mentioned f.name A w)) (passes_recursive f r)
 
 pub passes_positive : (f : Family) (A : Term) → Positive f A → is_positive f A ≡ true
 passes_positive f A (inl w) = or_left (not (mentions f.name A)) (ends_at_indices f A) (not_from_false (mentions f.name A) (not_mentioned f.name A w))

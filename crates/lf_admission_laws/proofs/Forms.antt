@@ -1,42 +1,23 @@
 -- What the tests of form tell of a field, of an end, and of levels.
-use Rattle.std.proofs.Common.{◌≡◌, ◌⊎◌, inl, inr, ℕ, zero, suc, Bool, true, false, not, ◌&&◌, ◌||◌, nat_eq, List, [], ◌∷◌, length, refl, sym, subst, ◌∙◌, arith, true≢false, Contains}
+use Rattle.std.proofs.Common.{◌≡◌, ◌⊎◌, inl, inr, ℕ, zero, suc, Bool, true, false, not, ◌&&◌, ◌||◌, nat_eq, List, [], ◌∷◌, length, refl, sym, arith, Contains}
 use Rattle.std.proofs.lemmas.Bool.{eqb-true, and_parts, or_parts, not-true}
-use Rattle.lf_core.specs.Term.{Path, Universe, level_zero, level_succ, Term, bound, free, meta, sort, const, app, lam, pi, letin, lit}
+use Rattle.lf_core.specs.Term.{Path, Universe, level_zero, level_succ, Term, bound, free, meta, sort, const, app, lam, pi, letin, lit, proj}
 use Rattle.lf_core.specs.Level.{Leq, Same}
-use Rattle.lf_core.specs.Same.{same_path, same}
+use Rattle.lf_core.specs.Same.{same}
 use Rattle.lf_core.specs.Spine.{apply}
-use Rattle.lf_core.specs.Telescope.{pi_count}
-use Rattle.lf_core.specs.Recursor.{Family, self, indices_of}
-use Rattle.lf_core.specs.Inductive.{Without, AllWithout, AtIndices, Recursive, at_indices, over, Positive, NeverZero, ProofsOrIndices}
-use Rattle.lf_env.specs.Names.{path_equivalence}
-use Rattle.lf_env.specs.LevelTest.{is_same, is_at_most}
-use Rattle.lf_env.specs.Admission.{mentions, any_mentions, is_at_indices, ends_at_indices, is_positive, is_low, is_never_zero, is_index, are_proofs_or_indices}
-use Rattle.lf_checker_laws.proofs.Tests.{no_false, term_is, level_same, level_at_most}
+use Rattle.lf_rules.specs.Telescope.{pi_count}
+use Rattle.lf_rules.specs.Recursor.{Family, self, indices_of}
+use Rattle.lf_rules.specs.Inductive.{AllWithout, AtIndices, Recursive, at_indices, over, Positive, NeverZero, ProofsOrIndices}
+use Rattle.lf_checker.specs.LevelTest.{is_same, is_at_most}
+use Rattle.lf_checker.specs.Structures.{mentions}
+use Rattle.lf_checker.specs.Admission.{any_mentions, is_at_indices, ends_at_indices, is_positive, is_low, is_never_zero, is_index, are_proofs_or_indices}
+use Rattle.lf_checker_laws.proofs.Structures.{without}
+use Rattle.lf_core.proofs.Trees.{term_is}
+use Rattle.lf_checker_laws.proofs.Tests.{no_false, level_same, level_at_most}
 
 pub either : (x y : Bool) → (x || y) ≡ true → (x ≡ true) ⊎ (y ≡ true)
 either true y e = inl refl
 either false y e = inr e
-
-pub path_same : (n : Path) → same_path n n ≡ true
-path_same n = path_equivalence.refl n
-
-other_name : (c n : Path) → same_path c n ≡ false → c ≡ n → ⊥
-other_name c n e q = true≢false (sym (subst (λ m. same_path c m ≡ true) q (path_same c)) ∙ e)
-
-without : (n : Path) (t : Term) → mentions n t ≡ false → Without n t
-without n (const c ls) e = other_name c n e
-without n (app f a) e = let p = or_parts (mentions n f) (mentions n a) e in (without n f p.0, without n a p.1)
-without n (lam x A b) e = let p = or_parts (mentions n A) (mentions n b) e in (without n A p.0, without n b p.1)
-without n (pi x A B) e = let p = or_parts (mentions n A) (mentions n B) e in (without n A p.0, without n B p.1)
-without n (letin x A v b) e =
-    let p = or_parts (mentions n A) (mentions n v || mentions n b) e in
-    let q = or_parts (mentions n v) (mentions n b) p.1 in
-    (without n A p.0, without n v q.0, without n b q.1)
-without n (bound i) e = tt
-without n (free k) e = tt
-without n (meta k) e = tt
-without n (sort l) e = tt
-without n (lit k) e = tt
 
 all_without : (n : Path) (ts : List Term) → any_mentions n ts ≡ false → AllWithout n ts
 all_without n [] e = tt
@@ -44,7 +25,8 @@ all_without n (t ∷ ts) e = let p = or_parts (mentions n t) (any_mentions n ts)
 
 pub at_indices_is : (f : Family) (t : Term) → is_at_indices f t ≡ true → AtIndices f t (indices_of f t)
 at_indices_is f t e =
-    let p = and_parts (same t (apply (self f) (indices_of f t))) (nat_eq (length (indices_of f t)) (pi_count f.rest) && not (any_mentions f.name (indices_of f t))) e in
+    let p = and_parts (same t (apply (self f) (indices_of f t)))
+    (nat_eq (length (indices_of f t)) (pi_count f.rest) && not (any_mentions f.name (indices_of f t))) e in
     let q = and_parts (nat_eq (length (indices_of f t)) (pi_count f.rest)) (not (any_mentions f.name (indices_of f t))) p.1 in
     record {
       form = term_is t (apply (self f) (indices_of f t)) p.0;
@@ -68,6 +50,7 @@ recursive_is f (app g a) e = recursive_at f (app g a) e
 recursive_is f (lam x A b) e = recursive_at f (lam x A b) e
 recursive_is f (letin x A v b) e = recursive_at f (letin x A v b) e
 recursive_is f (lit k) e = recursive_at f (lit k) e
+recursive_is f (proj s i t) e = recursive_at f (proj s i t) e
 
 pub positive_is : (f : Family) (A : Term) → is_positive f A ≡ true → Positive f A
 positive_is f A e = one (either (not (mentions f.name A)) (ends_at_indices f A) e)

@@ -3,8 +3,10 @@ pub mod Constructors
 pub mod Reading
 pub mod Pushed
 pub mod New_names
+pub mod Naming
 pub mod Accepted
 pub mod All
 pub mod Exact_forms
-pub mod Kept_out
+pub mod Refusals
 pub mod Eliminates
+pub mod Shallow

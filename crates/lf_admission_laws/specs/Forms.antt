@@ -2,9 +2,9 @@
 use Rattle.std.specs.Prelude.{◌≡◌, ◌↔◌, true, List}
 use Rattle.lf_core.specs.Term.{Term}
 use Rattle.lf_core.specs.Same.{same}
-use Rattle.lf_core.specs.Recursor.{Family, indices_of}
-use Rattle.lf_core.specs.Inductive.{AtIndices, Positive}
-use Rattle.lf_env.specs.Admission.{is_at_indices, is_positive}
+use Rattle.lf_rules.specs.Recursor.{Family, indices_of}
+use Rattle.lf_rules.specs.Inductive.{AtIndices, Positive}
+use Rattle.lf_checker.specs.Admission.{is_at_indices, is_positive}
 
 pub record FormTestsAreExact : Type 0 where
   -- the same tree

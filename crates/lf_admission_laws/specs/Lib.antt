@@ -1,4 +1,5 @@
 pub mod Admission
 pub mod Forms
-pub mod Kept_out
+pub mod Refusals
 pub mod Elimination
+pub mod Shallow

@@ -4,7 +4,8 @@
 ghost use Rattle.lf_admission_laws.specs.Admission.{AdmissionIsSound};
 ghost use Rattle.lf_admission_laws.specs.Elimination.{EliminatesAsAsked};
 ghost use Rattle.lf_admission_laws.specs.Forms.{FormTestsAreExact};
-ghost use Rattle.lf_admission_laws.specs.Kept_out.{RulesKeepOut};
+ghost use Rattle.lf_admission_laws.specs.Refusals.{RulesKeepOut};
+ghost use Rattle.lf_admission_laws.specs.Shallow.{RecursorsAreShallow};
 
 /// A declaration that is accepted eliminates into every sort where it is never a proposition or has no constructor.
 pub fn types_eliminate_into_every_sort()
@@ -25,4 +26,9 @@ pub fn rules_keep_out_wrong_declarations()
 /// list derived.
 pub fn accepted_is_admitted()
     ensures { AdmissionIsSound }
+{}
+
+/// The type and the rules of each recursor that is added are at most 1,024 deep.
+pub fn recursors_are_shallow()
+    ensures { RecursorsAreShallow }
 {}

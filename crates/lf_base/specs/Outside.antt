@@ -1,5 +1,5 @@
 -- What a source and a sink tell, and what moving bytes through them gives. This project's own.
-use Rattle.std.specs.Prelude.{◌≡◌, ◌≤◌, ◌<◌, ◌==◌, ◌||◌, ◌++◌, ◌+◌, ℕ, Bool, true, List, [], length, take, drop, Option, IfSome, nat_lt, option_map}
+use Rattle.std.specs.Prelude.{◌≡◌, ◌≤◌, ◌<◌, ◌==◌, ◌||◌, ◌++◌, ◌+◌, ℕ, Bool, true, List, [], length, take, drop, min, Option, IfSome, nat_lt, option_map}
 use Rattle.lf_base.specs.declared.source.ReadOut.{ReadOut}
 use Rattle.lf_base.specs.declared.source.ReadOut.TheVariants as read
 use Rattle.lf_base.specs.declared.sink.WriteOut.{WriteOut}
@@ -12,6 +12,10 @@ use Rattle.lf_base.specs.declared.whole.WriteAll.TheVariants as all
 -- A count rose in a call: it is greater after it than before, or stands at its type's end.
 abbrev pub rose : ℕ → ℕ → Bool
 rose before after = nat_lt before after || after == 18446744073709551615
+
+-- A count of stops rose: it is greater after the call than before, or stands at its type's end.
+abbrev pub Rises : ℕ → ℕ → Type 0
+Rises before after = min (before + 1) 18446744073709551615 ≤ after
 
 -- These bytes were moved out of what was left, where the source tells its bytes.
 abbrev pub Moves : Option (List ℕ) → Option (List ℕ) → List ℕ → Type 0

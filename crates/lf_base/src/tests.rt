@@ -1,6 +1,7 @@
+//! Reading and writing at their edges.
 use crate::{
-    MemSink, MemSource, ReadAll, ReadOut, Sink, Source, StdSink, StdSource, WriteAll, WriteOut,
-    read_all, write_all,
+    MemSink, MemSource, NeverStop, ReadAll, ReadOut, ScriptStop, Sink, Source, StdSink, StdSource,
+    Stop, WriteAll, WriteOut, read_all, write_all,
 };
 use std::io::{self, ErrorKind, Read, Write};
 use std::test::Fail;
@@ -109,4 +110,20 @@ fn whole_reads_stop_at_the_limit(rt: HostRuntime) -> Result<(), Fail> {
         assert_eq!(rt; whole, wanted, "at {limit}");
     }
     Ok(())
+}
+
+#[test]
+fn a_script_stops_at_one_poll(rt: HostRuntime) {
+    for at in [0u64, 1, 3] {
+        let mut stop = ScriptStop::new(at);
+        for poll in 1u64..5 {
+            assert_eq!(rt; stop.stopped(), poll == at, "poll {poll} of {at}");
+            assert_eq!(rt;
+                stop.stops,
+                if at >= 1 && poll >= at { 1 } else { 0 },
+                "poll {poll} of {at}"
+            );
+        }
+    }
+    assert!(rt; !NeverStop.stopped());
 }

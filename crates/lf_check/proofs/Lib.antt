@@ -1,1 +1,9 @@
-pub mod Sound
+pub mod HeadSteps
+pub mod Domains
+pub mod Fronts
+pub mod Nest
+pub mod Loops
+pub mod Judging
+pub mod Towers
+pub mod Ends
+pub mod Normals

@@ -1,37 +1,37 @@
--- What code answers for a type.
-use Rattle.std.specs.Prelude.{◌≡◌, ◌≤◌, ℕ, List, [], ◌∷◌, All, Result, Ok, Err}
-use Rattle.lf_core.specs.Term.{Term}
-use Rattle.lf_core.specs.Size.{depth}
-use Rattle.lf_core.specs.Environment.{Environment, Context}
-use Rattle.lf_core.specs.Judgment.{HasType}
-use Rattle.lf_core.specs.declared.constant.ConstInfo.{ConstInfo}
+-- What a call of the checker answers, with the units that it leaves and the names of opened binders.
+use Rattle.std.specs.Prelude.{◌≡◌, ℕ, List, []}
+use Rattle.lf_base.specs.Outside.{Rises}
+use Rattle.lf_core.specs.Term.{Path}
 use Rattle.lf_core.specs.declared.constant.Ans.{Ans}
-use Rattle.lf_core.specs.declared.constant.Ans.TheVariants as ans
-use Rattle.lf_check.specs.declared.fault.TypeFault.{TypeFault}
-use Rattle.lf_check.specs.declared.fault.Halt.{Halt}
-use Rattle.lf_check.specs.declared.fault.Halt.TheVariants as halt
+use Rattle.lf_core.specs.declared.constant.Ans.TheVariants.{Done, Refused, Out, Need, Stopped, NoMemory}
+use Rattle.lf_checker.specs.declared.fault.TypeFault.{TypeFault}
+use Rattle.lf_checker.specs.Run.{Answer, done, refused, out, need}
+use Rattle.lf_steps.specs.declared.halt.Halt.{Halt}
+use Rattle.lf_steps.specs.declared.halt.Halt.TheVariants as halt
 
--- Want of memory is the one free answer.
-abbrev pub Tells : {A : Type 0} → Result A Halt → Result A Halt → Type 0
-Tells (Ok x) o = o ≡ Ok x
-Tells (Err (halt.Refused f)) o = o ≡ Err (halt.Refused f)
-Tells (Err halt.Out) o = o ≡ Err halt.Out
-Tells (Err halt.NoMemory) o = Unit {0}
+-- The definition's answer; a stop and want of memory are free here. No units are left after all but a value and a refusal.
+abbrev pub Answers : {A : Type 0} → Answer A → Ans A TypeFault → ℕ → List Path → Type 0
+Answers o (Done a) u names = (o ≡ done a u) × (names ≡ [])
+Answers o (Refused e) u names = o ≡ refused (record { fault = e; opened = names }) u
+Answers o Out u names = (o ≡ out) × ((u ≡ 0) × (names ≡ []))
+Answers o (Need k) u names = (o ≡ need k) × ((u ≡ 0) × (names ≡ []))
+Answers o Stopped u names = (u ≡ 0) × (names ≡ [])
+Answers o NoMemory u names = (u ≡ 0) × (names ≡ [])
 
--- The answer of a call: the definition's, or want of memory.
-abbrev pub Answers : Ans Term TypeFault → Result Term Halt → Type 0
-Answers (ans.Done A) o = o ≡ Ok A
-Answers (ans.Refused f) o = o ≡ Err (halt.Refused f)
-Answers ans.Out o = o ≡ Err halt.Out
-Answers (ans.Need k) o = ⊥
-Answers ans.Stopped o = ⊥
-Answers ans.NoMemory o = Unit {0}
+-- Stopped only where the count of stops rose.
+abbrev pub StopsOnly : {A : Type 0} → Ans A TypeFault → ℕ → ℕ → Type 0
+StopsOnly (Done a) before after = Unit {0}
+StopsOnly (Refused e) before after = Unit {0}
+StopsOnly Out before after = Unit {0}
+StopsOnly (Need k) before after = Unit {0}
+StopsOnly Stopped before after = Rises before after
+StopsOnly NoMemory before after = Unit {0}
 
--- What is said of the type, where there is one.
-abbrev pub IfDone : Ans Term TypeFault → (Term → Type 0) → Type 0
-IfDone (ans.Done A) P = P A
-IfDone _ P = Unit {0}
-
--- No constant has a type that is deeper than a term may be.
-abbrev pub IsShallow : ConstInfo → Type 0
-IsShallow c = depth c.ty ≤ 1024
+-- What is told of a halt with these units left. A device of the proof.
+abbrev pub Ended : {A : Type 0} → Halt → ℕ → Ans A TypeFault → ℕ → List Path → Type 0
+Ended (halt.Refused r) left (Refused e) u names = (e ≡ r.fault) × ((u ≡ left) × (names ≡ r.opened.items))
+Ended halt.Out left Out u names = (u ≡ 0) × (names ≡ [])
+Ended (halt.Need k) left (Need j) u names = (j ≡ k) × ((u ≡ 0) × (names ≡ []))
+Ended halt.Stopped left Stopped u names = (u ≡ 0) × (names ≡ [])
+Ended halt.NoMemory left NoMemory u names = (u ≡ 0) × (names ≡ [])
+Ended _ left a u names = ⊥

@@ -1,11 +1,17 @@
-//! The checker: the types of terms.
+//! The plain checker: weak head forms, equality, types and normal forms, with what they cost.
 #![tactic(auto)]
 
-mod fault;
+mod built;
+mod calls;
+mod compare;
+mod cx;
+mod form;
+mod judge;
+mod mode;
+mod normal;
+mod reduce;
+mod step;
+mod turn;
 mod typing;
 
-pub use fault::TypeFault;
-pub use typing::{CheckCx, infer, is_shallow};
-
-#[cfg(test)]
-mod tests;
+pub use calls::{CheckCx, equal, infer, infer_unchecked, nf, whnf};

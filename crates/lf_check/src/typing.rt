@@ -1,234 +1,360 @@
-//! Types of sorts, constants, variables and pis.
-ghost use Rattle.std.specs.Prelude.{◌≡◌, ◌↔◌, IsTrue, ◌≤◌, ◌++◌, ◌∷◌, [], All, IfOk, Ok, length, option_copied, slice_get};
-ghost use Rattle.lf_core.specs.Size as size;
-ghost use Rattle.lf_core.specs.Substitution.{instantiate, level_instantiate};
-ghost use Rattle.lf_core.specs.Term.{free};
-ghost use Rattle.lf_core.specs.Environment.{opened, with};
-ghost use Rattle.lf_core.specs.Judgment.{HasType};
-ghost use Rattle.lf_core.specs.Scope.{Scoped};
-ghost use Rattle.lf_check.specs.Infer as spec;
-ghost use Rattle.lf_check.specs.Answers.{Tells, Answers, IfDone, IsShallow};
+//! Steps of inference that make no nested call.
+ghost use Rattle.std.specs.Prelude.{◌≡◌, ◌++◌, [], Some, IfOk, slice_get};
+ghost use Rattle.std.specs.Option.{option_copied};
+ghost use Rattle.lf_core.specs.Spine as spine;
+ghost use Rattle.lf_check.specs.Forms as forms;
+ghost use Rattle.lf_core.specs.Term.{level_succ, level_imax, sort};
+ghost use Rattle.lf_rules.specs.Structure.{projections};
+ghost use Rattle.lf_rules.specs.Environment.{nat_type};
+ghost use Rattle.lf_checker.specs.Calls.{see as spec_see};
+ghost use Rattle.lf_checker.specs.declared.fault.TypeFault.TheVariants as fault;
+ghost use Rattle.lf_checker.specs.Infer as spec;
+ghost use Rattle.lf_checker.specs.Run as run;
+ghost use Rattle.lf_steps.specs.Runs.{Runs, Calm};
+ghost use Rattle.lf_steps.specs.Values as values;
+ghost use Rattle.lf_check.specs.Values as own;
 
-use crate::fault::{Halt, TypeFault};
-use lf_core::{Ans, ConstInfo, Expr, ExprNode, Level, Name, NoMemory, discard};
-use lf_subst::{SubstFault, instantiate, level_inst};
+use crate::mode::Mode;
+use lf_checker::TypeFault;
+use lf_core::{Expr, ExprNode, Level, Name, NoMemory, discard};
+use lf_env::View;
+use lf_steps::{
+    Halt, Seen, Structure, arguments, at_levels, head, instance, need, put, refusal, see,
+    structure_of,
+};
+use sqlite_items::at as item_at;
 use std::alloc::Global;
 
-/// What a term is checked over: the constants, and the types of its free variables.
-#[derive(Drop)]
-pub struct CheckCx<'a> {
-    pub consts: &'a [ConstInfo],
-    pub locals: Vec<Expr>,
-}
-
-/// A pi's codomain with the next free variable for its variable.
-fn open(alloc: Global, variable: u32, body: &Expr) -> Result<Expr, Halt>
-    requires { size.depth body.now ≤ 1024 }
-    ensures { Tells result (spec.made (instantiate body.now (free variable))) }
+fn of_context(alloc: Global, units: &mut u64, ty: Option<&Expr>) -> Result<Expr, Halt>
+    ensures value { Runs (spec.of_context (option_copied ty.entry) units.old) result units.new }
+    ensures calm { Calm result }
 {
-    let variable = Expr::free(alloc, variable)?;
-    match instantiate(alloc, body, &variable, u64::MAX) {
-        Ok((term, _)) => Ok(term),
-        Err(SubstFault::TooDeep) => Err(Halt::Out),
-        Err(_) => Err(Halt::NoMemory),
-    }
-}
-
-/// A term at these levels.
-fn at_levels(alloc: Global, levels: &[Level], term: &Expr) -> Result<Expr, Halt>
-    requires { size.depth term.now ≤ 1024 }
-    ensures { Tells result (spec.made (level_instantiate levels.now term.now)) }
-{
-    match level_inst(alloc, term, levels, u64::MAX) {
-        Ok((term, _)) => Ok(term),
-        Err(SubstFault::TooDeep) => Err(Halt::Out),
-        Err(_) => Err(Halt::NoMemory),
-    }
-}
-
-fn variable_type(alloc: Global, locals: &[Expr], k: u32) -> Result<Expr, Halt>
-    ensures { Tells result (spec.variable_type (slice_get locals.now k)) }
-{
-    match locals.get(k as usize) {
+    let _left = *units;
+    match ty {
         Some(ty) => Ok(ty.copy(alloc)?),
-        None => Err(Halt::Refused(TypeFault::NotClosed)),
+        None => Err(Halt::Refused(refusal(alloc, TypeFault::NotClosed))),
     }
 }
 
-/// The first constant of this name.
-fn find_constant<'a>(consts: &'a [ConstInfo], name: &Name) -> Option<&'a ConstInfo>
-    ensures { option_copied result ≡ spec.find_constant consts.now name.now }
+/// The type of the variable of this place in the context.
+pub fn of_variable(
+    alloc: Global,
+    units: &mut u64,
+    locals: &[Expr],
+    place: u32,
+) -> Result<Expr, Halt>
+    ensures value { Runs (spec.of_context (slice_get locals.now place) units.old) result units.new }
+    ensures calm { Calm result }
 {
-    consts.iter().find(|c| name.is(&c.name))
+    of_context(alloc, units, item_at(locals, place as usize))
 }
 
-fn constant_type(
+/// The type of the metavariable of this number; where tests are made it is refused.
+pub fn of_metavariable(
     alloc: Global,
-    consts: &[ConstInfo],
+    units: &mut u64,
+    mode: Mode<'_>,
+    number: u32,
+) -> Result<Expr, Halt>
+    ensures value { Runs (spec.of_metavariable (own.mode mode.entry) number units.old) result units.new }
+    ensures calm { Calm result }
+{
+    match mode {
+        Mode::Checked => of_context(alloc, units, None),
+        Mode::Unchecked(types) => of_context(alloc, units, item_at(types, number as usize)),
+    }
+}
+
+/// The type of a constant at these levels. It costs its nodes.
+pub fn of_constant(
+    alloc: Global,
+    view: &View,
+    units: &mut u64,
     name: &Name,
     levels: &[Level],
 ) -> Result<Expr, Halt>
-    requires { All IsShallow consts.now }
-    ensures { Tells result (spec.constant_type name.now levels.now (spec.find_constant consts.now name.now)) }
+    ensures value { Runs (spec.of_constant name.now levels.now (spec_see view.now name.now) units.old) result units.new }
+    ensures calm { Calm result }
 {
-    let Some(found) = find_constant(consts, name) else {
-        return Err(Halt::Refused(TypeFault::Unknown(name.copy(alloc)?)));
-    };
-    if levels.len() != found.levels.len() {
-        return Err(Halt::Refused(TypeFault::Levels(name.copy(alloc)?)));
+    match see(alloc, view, name)? {
+        Seen::Known(info) => {
+            if levels.len() == info.levels.len() {
+                at_levels(alloc, units, levels, &info.ty)
+            } else {
+                let fault = TypeFault::Levels(name.copy(alloc)?);
+                Err(Halt::Refused(refusal(alloc, fault)))
+            }
+        }
+        Seen::Unknown => {
+            let fault = TypeFault::Unknown(name.copy(alloc)?);
+            Err(Halt::Refused(refusal(alloc, fault)))
+        }
+        Seen::Missing(key) => Err(need(units, key)),
     }
-    at_levels(alloc, levels, &found.ty)
 }
 
-/// The level of the sort that a type is.
-fn sort_level(alloc: Global, ty: Expr) -> Result<Level, Halt>
-    ensures { Tells result (spec.sort_level (Ok ty)) }
+/// The sort of a sort.
+pub fn of_sort(alloc: Global, units: &mut u64, level: &Level) -> Result<Expr, Halt>
+    ensures value { Runs (run.put (sort (level_succ level.now)) units.old) result units.new }
+    ensures calm { Calm result }
+{
+    let level = Level::succ(alloc, level.copy(alloc)?)?;
+    put(units, Expr::sort(alloc, level)?)
+}
+
+/// The sort of a pi, from those of its domain and codomain.
+pub fn of_pi(alloc: Global, units: &mut u64, domain: Level, codomain: Level) -> Result<Expr, Halt>
+    ensures value { Runs (run.put (sort (level_imax domain codomain)) units.old) result units.new }
+    ensures calm { Calm result }
+{
+    let level = Level::imax(alloc, domain, codomain)?;
+    put(units, Expr::sort(alloc, level)?)
+}
+
+/// `Nat`, the type of a literal.
+pub fn of_literal(alloc: Global) -> Result<Expr, NoMemory>
+    ensures { IfOk result (λ t. t ≡ nat_type) }
+{
+    let name = Name::one(alloc, "Nat")?;
+    Expr::constant(alloc, name, sqlite_items::Items::new(alloc))
+}
+
+/// The level of the sort `form`; else a refusal of what has the type `has`.
+pub fn on_sort(alloc: Global, units: &mut u64, has: &Expr, form: &Expr) -> Result<Level, Halt>
+    ensures value { Runs (spec.on_sort has.now form.now units.old) result units.new }
+    ensures calm { Calm result }
+{
+    let _left = *units;
+    match form.node() {
+        ExprNode::Sort(level) => Ok(level.copy(alloc)?),
+        _ => {
+            let fault = TypeFault::NotType(has.copy(alloc)?);
+            Err(Halt::Refused(refusal(alloc, fault)))
+        }
+    }
+}
+
+/// A refusal of what has this type as a function.
+pub fn no_function(alloc: Global, units: &mut u64, has: &Expr) -> Result<Expr, Halt>
+    ensures value { Runs (run.refuse (fault.NotFunction has.now) units.old) result units.new }
+    ensures calm { Calm result }
+{
+    let _left = *units;
+    let fault = TypeFault::NotFunction(has.copy(alloc)?);
+    Err(Halt::Refused(refusal(alloc, fault)))
+}
+
+/// Nothing where the argument fits; else a refusal of its type where another is expected.
+pub fn argument_fits(
+    alloc: Global,
+    units: &mut u64,
+    fits: bool,
+    has: &Expr,
+    wanted: &Expr,
+) -> Result<(), Halt>
+    ensures value { Runs (run.choose fits (run.gives tt) (run.refuse (fault.Argument has.now wanted.now)) units.old) result units.new }
+    ensures calm { Calm result }
+{
+    let _left = *units;
+    if fits {
+        return Ok(());
+    }
+    let fault = TypeFault::Argument(has.copy(alloc)?, wanted.copy(alloc)?);
+    Err(Halt::Refused(refusal(alloc, fault)))
+}
+
+/// Nothing where the value fits; else a refusal of its type where another is expected.
+pub fn value_fits(
+    alloc: Global,
+    units: &mut u64,
+    fits: bool,
+    has: &Expr,
+    wanted: &Expr,
+) -> Result<(), Halt>
+    ensures value { Runs (run.choose fits (run.gives tt) (run.refuse (fault.Value has.now wanted.now)) units.old) result units.new }
+    ensures calm { Calm result }
+{
+    let _left = *units;
+    if fits {
+        return Ok(());
+    }
+    let fault = TypeFault::Value(has.copy(alloc)?, wanted.copy(alloc)?);
+    Err(Halt::Refused(refusal(alloc, fault)))
+}
+
+fn no_structure(alloc: Global, units: &mut u64, has: &Expr) -> Result<Expr, Halt>
+    ensures value { Runs (run.refuse (fault.NotStructure has.now) units.old) result units.new }
+    ensures calm { Calm result }
+{
+    let _left = *units;
+    let fault = TypeFault::NotStructure(has.copy(alloc)?);
+    Err(Halt::Refused(refusal(alloc, fault)))
+}
+
+// The domain of a pi.
+fn domain(alloc: Global, units: &mut u64, has: &Expr, ty: &Expr) -> Result<Expr, Halt>
+    ensures value { Runs (spec.domain_at has.now ty.now [] units.old) result units.new }
+    ensures calm { Calm result }
 {
     match ty.node() {
-        ExprNode::Sort(level) => Ok(level.copy(alloc)?),
-        _ => Err(Halt::Refused(TypeFault::NotType(ty.copy(alloc)?))),
+        ExprNode::Pi(_, domain, _) => Ok(domain.copy(alloc)?),
+        _ => no_structure(alloc, units, has),
     }
 }
 
-fn imax_sort(alloc: Global, domain: &Level, codomain: Level) -> Result<Expr, Halt>
-    ensures { Tells result (spec.imax_sort domain.now (Ok codomain)) }
+fn codomain(ty: &Expr) -> Option<&Expr>
+    ensures { option_copied result ≡ forms.codomain_of ty.now }
 {
-    let level = Level::imax(alloc, domain.copy(alloc)?, codomain)?;
-    Ok(Expr::sort(alloc, level)?)
-}
-
-fn copied(alloc: Global, locals: &[Expr]) -> Result<Vec<Expr>, NoMemory>
-    ensures { IfOk result (λ all. all.items ≡ locals.now) }
-{
-    let mut all = Vec::new(alloc);
-    for local in locals {
-        all.push(local.copy(alloc)?)?;
+    match ty.node() {
+        ExprNode::Pi(_, _, codomain) => Some(codomain),
+        _ => None,
     }
-    Ok(all)
 }
 
-/// The context with one more variable.
-fn with(alloc: Global, locals: &[Expr], ty: &Expr) -> Result<Vec<Expr>, NoMemory>
-    ensures { IfOk result (λ all. all.items ≡ with locals.now ty.now) }
-{
-    let mut all = copied(alloc, locals)?;
-    all.push(ty.copy(alloc)?)?;
-    Ok(all)
-}
-
-/// The type of a term, with so many nested calls left.
-#[cycle(types)]
-fn type_at(
+// The domain that is left of a type of pis at these arguments.
+fn domain_at(
     alloc: Global,
-    consts: &[ConstInfo],
-    locals: &[Expr],
-    depth: u32,
-    term: &Expr,
+    units: &mut u64,
+    has: &Expr,
+    ty: &Expr,
+    arguments: &[Expr],
 ) -> Result<Expr, Halt>
-    requires shallow { All IsShallow consts.now }
-    requires term { size.depth term.now ≤ 1024 }
-    ensures { Tells result (spec.type_at depth consts.now locals.now term.now) }
+    ensures value { Runs (forms.along has.now ty.now arguments.now units.old) result units.new }
+    ensures calm { Calm result }
 {
-    if depth == 0 {
-        return Err(Halt::Out);
+    match arguments {
+        [] => domain(alloc, units, has, ty),
+        [y, rest @ ..] => match codomain(ty) {
+            Some(body) => {
+                let ty = instance(alloc, units, body, y)?;
+                let domain = domain_at(alloc, units, has, &ty, rest);
+                discard(ty);
+                domain
+            }
+            None => no_structure(alloc, units, has),
+        },
     }
-    form_type(alloc, consts, locals, depth - 1, term)
 }
 
-#[cycle(types)]
-fn form_type(
+// Puts the first `count` projections of a term at the end of the list.
+fn with_projections(
     alloc: Global,
-    consts: &[ConstInfo],
-    locals: &[Expr],
-    depth: u32,
+    all: Vec<Expr>,
+    structure: &Name,
+    count: u32,
     term: &Expr,
-) -> Result<Expr, Halt>
-    requires shallow { All IsShallow consts.now }
-    requires term { size.depth term.now ≤ 1024 }
-    ensures { Tells result (spec.form_type (spec.type_at depth consts.now) consts.now locals.now term.now) }
+) -> Result<Vec<Expr>, NoMemory>
+    ensures { IfOk result (λ more. more.items ≡ all.items ++ projections structure.now count term.now) }
 {
-    match term.node() {
-        ExprNode::Free(k) => variable_type(alloc, locals, *k),
-        ExprNode::Sort(l) => {
-            let level = Level::succ(alloc, l.copy(alloc)?)?;
-            Ok(Expr::sort(alloc, level)?)
+    let mut more = all;
+    let mut place = 0u32;
+    'fields: while place < count {
+        let structure = structure.copy(alloc)?;
+        more.push(Expr::proj(alloc, structure, place, term.copy(alloc)?)?)?;
+        place += 1;
+    }
+    Ok(more)
+}
+
+fn fits(structure: Structure<'_>, levels: &[Level], params: &[Expr], field: u32) -> bool
+    ensures { result ≡ own.fits levels.now params.now field (values.structure structure.entry) }
+{
+    levels.len() == structure.levels
+        && params.len() == structure.params as usize
+        && field < structure.fields
+}
+
+#[tactic(auto, using(crate::proofs::Domains::along_is))]
+fn of_structure(
+    alloc: Global,
+    units: &mut u64,
+    has: &Expr,
+    name: &Name,
+    place: u32,
+    term: &Expr,
+    levels: &[Level],
+    params: Vec<Expr>,
+    structure: Structure<'_>,
+) -> Result<Expr, Halt>
+    ensures value { Runs (spec.of_structure has.now name.now place term.now levels.now params.items (Some (values.structure structure.entry)) units.old) result units.new }
+    ensures calm { Calm result }
+{
+    if fits(structure, levels, params.as_slice(), place) {
+        let ty = at_levels(alloc, units, levels, structure.ty)?;
+        let all = with_projections(alloc, params, name, place, term)?;
+        let domain = domain_at(alloc, units, has, &ty, all.as_slice());
+        discard(ty);
+        domain
+    } else {
+        no_structure(alloc, units, has)
+    }
+}
+
+fn with_structure(
+    alloc: Global,
+    view: &View,
+    units: &mut u64,
+    has: &Expr,
+    name: &Name,
+    place: u32,
+    term: &Expr,
+    levels: &[Level],
+    form: &Expr,
+) -> Result<Expr, Halt>
+    ensures value { Runs (forms.with_structure view.now has.now name.now place term.now levels.now (spine.arguments_of form.now) units.old) result units.new }
+    ensures calm { Calm result }
+{
+    let params = arguments(alloc, form)?;
+    match structure_of(alloc, view, units, name)? {
+        Some(s) => of_structure(alloc, units, has, name, place, term, levels, params, s),
+        None => no_structure(alloc, units, has),
+    }
+}
+
+fn at_constant(
+    alloc: Global,
+    view: &View,
+    units: &mut u64,
+    has: &Expr,
+    name: &Name,
+    place: u32,
+    term: &Expr,
+    constant: &Name,
+    levels: &[Level],
+    form: &Expr,
+) -> Result<Expr, Halt>
+    ensures value { Runs (forms.at_constant view.now has.now name.now place term.now constant.now levels.now (spine.arguments_of form.now) units.old) result units.new }
+    ensures calm { Calm result }
+{
+    if constant.is(name) {
+        with_structure(alloc, view, units, has, name, place, term, levels, form)
+    } else {
+        no_structure(alloc, units, has)
+    }
+}
+
+/// The type of the field `place` of `term`, whose type `has` has the weak head form `form`: `form` is the structure
+/// `name` at its parameters. What is made costs its nodes.
+pub fn on_structure(
+    alloc: Global,
+    view: &View,
+    units: &mut u64,
+    has: &Expr,
+    name: &Name,
+    place: u32,
+    term: &Expr,
+    form: &Expr,
+) -> Result<Expr, Halt>
+    ensures value { Runs (spec.on_structure view.now has.now name.now place term.now (spine.head_of form.now) (spine.arguments_of form.now) units.old) result units.new }
+    ensures calm { Calm result }
+{
+    match head(form).node() {
+        ExprNode::Const(constant, levels) => {
+            let levels = levels.as_slice();
+            at_constant(
+                alloc, view, units, has, name, place, term, constant, levels, form,
+            )
         }
-        ExprNode::Const(name, levels) => constant_type(alloc, consts, name, levels.as_slice()),
-        ExprNode::Pi(_, domain, body) => pi_type(alloc, consts, locals, depth, domain, body),
-        ExprNode::Bound(_) | ExprNode::Meta(_) => Err(Halt::Refused(TypeFault::NotClosed)),
-        ExprNode::App(_, _)
-        | ExprNode::Lam(_, _, _)
-        | ExprNode::Let(_, _, _, _)
-        | ExprNode::Lit(_) => { Err(Halt::Refused(TypeFault::NotBuilt)) }
+        _ => no_structure(alloc, units, has),
     }
-}
-
-#[cycle(types)]
-fn pi_type(
-    alloc: Global,
-    consts: &[ConstInfo],
-    locals: &[Expr],
-    depth: u32,
-    domain: &Expr,
-    body: &Expr,
-) -> Result<Expr, Halt>
-    requires shallow { All IsShallow consts.now }
-    requires domain { size.depth domain.now ≤ 1024 }
-    requires body { size.depth body.now ≤ 1024 }
-    ensures { Tells result (spec.pi_type (spec.type_at depth consts.now) locals.now domain.now body.now
-        (spec.sort_level (spec.type_at depth consts.now locals.now domain.now))) }
-{
-    let ty = type_at(alloc, consts, locals, depth, domain)?;
-    let level = sort_level(alloc, ty)?;
-    let ty = codomain_type(alloc, consts, locals, depth, domain, body)?;
-    imax_sort(alloc, &level, sort_level(alloc, ty)?)
-}
-
-/// The type of a pi's codomain, in the context with its variable.
-#[cycle(types)]
-fn codomain_type(
-    alloc: Global,
-    consts: &[ConstInfo],
-    locals: &[Expr],
-    depth: u32,
-    domain: &Expr,
-    body: &Expr,
-) -> Result<Expr, Halt>
-    requires shallow { All IsShallow consts.now }
-    requires body { size.depth body.now ≤ 1024 }
-    ensures { Tells result (spec.inside (spec.type_at depth consts.now) locals.now domain.now (spec.made (opened locals.now body.now))) }
-{
-    let Ok(variable) = u32::try_from(locals.len()) else {
-        return Err(Halt::NoMemory);
-    };
-    let body = open(alloc, variable, body)?;
-    let all = with(alloc, locals, domain)?;
-    let ty = type_at(alloc, consts, all.as_slice(), depth, &body);
-    discard(body);
-    ty
-}
-
-/// The type of `term`: by the context for a variable, the next sort for a sort, the declared type at its levels for a constant, the sort
-/// of `imax` for a pi. Refused with `Unknown`, `Levels`, `NotType` and `NotClosed` as they say, and with `NotBuilt` for the other forms. Out
-/// where more than 512 calls are nested or a term is made that is deeper than 1,024.
-pub fn infer(alloc: Global, cx: &mut CheckCx<'_>, term: &Expr) -> Ans<Expr, TypeFault>
-    requires shallow { All IsShallow cx.old.consts.now }
-    requires term { size.depth term.now ≤ 1024 }
-    ensures value { Answers result (spec.type_of cx.old.consts.now cx.old.locals.items term.now) }
-    ensures typed { Scoped 0 (length cx.old.locals.items) term.now → IfDone result (HasType cx.old.consts.now cx.old.locals.items term.now) }
-    ensures same { cx.new ≡ cx.old }
-{
-    match type_at(alloc, cx.consts, cx.locals.as_slice(), 512, term) {
-        Ok(ty) => Ans::Done(ty),
-        Err(Halt::Refused(fault)) => Ans::Refused(fault),
-        Err(Halt::Out) => Ans::Out,
-        Err(Halt::NoMemory) => Ans::NoMemory,
-    }
-}
-
-/// Whether no constant has a type that is deeper than 1,024, as `infer` asks.
-pub fn is_shallow(consts: &[ConstInfo]) -> bool
-    ensures { IsTrue result ↔ All IsShallow consts.now }
-{
-    consts.iter().all(|c| c.ty.depth() <= 1024)
 }

@@ -2,8 +2,8 @@
 use Rattle.std.proofs.Common.{◌≡◌, List, [], ◌∷◌, subst}
 use Rattle.lf_core.specs.Term.{Term, app}
 use Rattle.lf_core.specs.Spine.{apply, head_of, arguments_of}
-use Rattle.lf_core.specs.Environment.{Environment, Context}
-use Rattle.lf_core.specs.Judgment.{Equal, reflexive, applications, Formed, function, argument}
+use Rattle.lf_rules.specs.Environment.{Environment, Context}
+use Rattle.lf_rules.specs.Judgment.{Equal, reflexive, applications, Formed, function, argument}
 use Rattle.lf_judgment_laws.proofs.Variables.{rebuilt}
 
 abbrev pub AllFormed : Environment → Context → List Term → Type 0

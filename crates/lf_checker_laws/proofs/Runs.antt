@@ -4,14 +4,35 @@ use Rattle.std.proofs.lemmas.Bool.{cond_both}
 use Rattle.lf_core.specs.Term.{Path, Universe, Term, sort, pi}
 use Rattle.lf_core.specs.Size.{node_count, depth}
 use Rattle.lf_core.specs.Spine.{apply}
-use Rattle.lf_env.specs.Run.{Answer, done, refused, out, need, Run, go_on, spend, caught, named_in, choose, put, made_before, made, greatest_depth, gives, gives_up, greatest_variable, opening}
-use Rattle.lf_core.specs.Environment.{Context, opened}
-use Rattle.lf_env.specs.Infer.{on_pi, on_sort}
-use Rattle.lf_env.specs.Equal.{and_then}
+use Rattle.lf_checker.specs.Run.{
+  Answer,
+  done,
+  refused,
+  out,
+  need,
+  Run,
+  go_on,
+  spend,
+  caught,
+  named_in,
+  choose,
+  put,
+  made_before,
+  made,
+  greatest_depth,
+  gives,
+  gives_up,
+  greatest_variable,
+  opening,
+}
+use Rattle.lf_rules.specs.Environment.{Context, opened}
+use Rattle.lf_checker.specs.Infer.{on_pi, on_sort}
+use Rattle.lf_checker.specs.Equal.{and_then}
 use Rattle.lf_checker_laws.specs.Soundness.{Post}
 use Rattle.lf_checker_laws.proofs.Tests.{no_false}
 
-pub post_then : {A B : Type 0} (P : A → Type 0) (Q : B → Type 0) (o : Answer A) (f : A → Run B) → Post P o → ((x : A) (u : ℕ) → P x → Post Q (f x u)) → Post Q (go_on o f)
+pub post_then : {A B : Type 0} (P : A → Type 0) (Q : B → Type 0) (o : Answer A) (f : A → Run B) → Post P o → ((x : A) (u : ℕ) → P x → Post Q (f x u))
+    → Post Q (go_on o f)
 post_then P Q (done x u) f h k = k x u h
 post_then P Q (refused e u) f h k = tt
 post_then P Q out f h k = tt
@@ -54,7 +75,8 @@ post_named P x (refused e u) h = tt
 post_named P x out h = tt
 post_named P x (need n) h = tt
 
-pub post_choose : {A : Type 0} (Q : A → Type 0) (b : Bool) (m n : Run A) (u : ℕ) → (b ≡ true → Post Q (m u)) → (b ≡ false → Post Q (n u)) → Post Q (choose b m n u)
+pub post_choose : {A : Type 0} (Q : A → Type 0) (b : Bool) (m n : Run A) (u : ℕ) → (b ≡ true → Post Q (m u)) → (b ≡ false → Post Q (n u))
+    → Post Q (choose b m n u)
 post_choose Q true m n u h k = h refl
 post_choose Q false m n u h k = k refl
 
@@ -75,7 +97,8 @@ pub post_and : (P Q : Type 0) (r : Bool) (m : Run Bool) (u : ℕ) → Yes P r �
 post_and P Q true m u h k = k (h refl)
 post_and P Q false m u h k = λ e. no_false e
 
-pub post_on_pi : {A : Type 0} (Q : A → Type 0) (F P : Term) (k : Term → Term → Run A) (u : ℕ) → ((x : _) (X B : Term) → P ≡ pi x X B → Post Q (k X B u)) → Post Q (on_pi F P k u)
+pub post_on_pi : {A : Type 0} (Q : A → Type 0) (F P : Term) (k : Term → Term → Run A) (u : ℕ) → ((x : _) (X B : Term) → P ≡ pi x X B → Post Q (k X B u))
+    → Post Q (on_pi F P k u)
 post_on_pi Q F (pi x X B) k u h = h x X B refl
 post_on_pi Q F _ k u h = tt
 
@@ -93,5 +116,7 @@ post_made_then Q t f u h = post_then (λ z. z ≡ t) Q (made t u) f (post_made (
 pub post_opening : (Q : Term → Type 0) (C : Context) (b : Term) (u : ℕ) → Q (opened C b) → Post Q (opening C b u)
 post_opening Q C b u h = post_choose Q (nat_lt greatest_variable (length C)) gives_up (made (opened C b)) u (λ e. tt) (λ e. post_made Q (opened C b) u h)
 
-pub post_opening_then : {B : Type 0} (Q : B → Type 0) (C : Context) (b : Term) (f : Term → Run B) (u : ℕ) → ((v : ℕ) → Post Q (f (opened C b) v)) → Post Q (go_on (opening C b u) f)
-post_opening_then Q C b f u h = post_then (λ z. z ≡ opened C b) Q (opening C b u) f (post_opening (λ z. z ≡ opened C b) C b u refl) λ z v e. subst (λ y. Post Q (f y v)) (sym e) (h v)
+pub post_opening_then : {B : Type 0} (Q : B → Type 0) (C : Context) (b : Term) (f : Term → Run B) (u : ℕ) → ((v : ℕ) → Post Q (f (opened C b) v))
+    → Post Q (go_on (opening C b u) f)
+post_opening_then Q C b f u h = post_then (λ z. z ≡ opened C b) Q (opening C b u) f (post_opening (λ z. z ≡ opened C b) C b u refl) λ z v e.
+    subst (λ y. Post Q (f y v)) (sym e) (h v)

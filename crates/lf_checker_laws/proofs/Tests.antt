@@ -1,71 +1,19 @@
 -- What the tests of names, levels and terms tell.
-use Rattle.std.proofs.Common.{◌≡◌, ℕ, ◌≤◌, true, false, ◌&&◌, ◌||◌, nat_lt, Bool, length, List, [], ◌∷◌, refl, sym, ap, ap₂, ◌∙◌, ◌↔◌, arith, true≢false}
-use Rattle.std.proofs.lemmas.Bool.{cond_both, eqb-true, ltb-true, ltb-false, and_parts, or_parts, or_from, cond-false, false_from_ne_true}
-use Rattle.lf_core.specs.Term.{Universe, level_zero, level_succ, level_max, level_imax, level_param, level_meta, Term, bound, free, meta, sort, const, app, lam, pi, letin, lit}
+use Rattle.std.proofs.Common.{◌≡◌, ℕ, ◌≤◌, true, false, ◌||◌, nat_lt, Bool, length, List, [], ◌∷◌, refl, sym, ap, ◌∙◌, ◌↔◌, arith, true≢false}
+use Rattle.std.proofs.lemmas.Bool.{cond_both, ltb-true, ltb-false, and_parts, or_parts, or_from, cond-false, false_from_ne_true}
+use Rattle.lf_core.specs.Term.{Universe, level_zero, level_succ, level_max, level_imax, level_param, level_meta}
 use Rattle.lf_core.specs.Level.{value_of, Leq, Same, AllSame}
-use Rattle.lf_core.specs.Same.{same_path, same_universe, same_universes, same_kind, same_binder, same}
-use Rattle.lf_core.specs.declared.binder.Binder.{Binder}
-use Rattle.lf_core.specs.declared.binder.BinderKind.{BinderKind}
-use Rattle.lf_core.specs.declared.binder.BinderKind.TheVariants.{Explicit, Implicit}
+use Rattle.lf_core.specs.Same.{same_universe}
 use Rattle.lf_level.specs.Parameters.{HasNoMetavariable, parameters_of}
 use Rattle.lf_level.specs.Decision.{passes}
 use Rattle.lf_level.proofs.Decided.{same_answer, leq_answer}
 use Rattle.lf_core.specs.Size.{level_depth}
 use Rattle.lf_checker_laws.specs.Levels.{LevelTestIsExact}
-use Rattle.lf_env.specs.Names.{path_is}
-use Rattle.lf_env.specs.LevelTest.{has_metavariable, both_orders, is_too_great, is_same, is_at_most, are_same}
+use Rattle.lf_core.proofs.Trees.{universe_is}
+use Rattle.lf_checker.specs.LevelTest.{has_metavariable, both_orders, is_too_great, is_same, is_at_most, are_same}
 
 pub no_false : {P : Type 0} → false ≡ true → P
 no_false e = absurd (true≢false (sym e))
-
-pub universe_is : (a b : Universe) → same_universe a b ≡ true → a ≡ b
-universe_is level_zero level_zero h = refl
-universe_is (level_succ a) (level_succ b) h = ap level_succ (universe_is a b h)
-universe_is (level_max a c) (level_max b d) h = let p = and_parts (same_universe a b) (same_universe c d) h in ap₂ level_max (universe_is a b p.0) (universe_is c d p.1)
-universe_is (level_imax a c) (level_imax b d) h = let p = and_parts (same_universe a b) (same_universe c d) h in ap₂ level_imax (universe_is a b p.0) (universe_is c d p.1)
-universe_is (level_param a) (level_param b) h = ap level_param (eqb-true a b h)
-universe_is (level_meta a) (level_meta b) h = ap level_meta (eqb-true a b h)
-universe_is _ _ h = no_false h
-
-universes_are : (a b : List Universe) → same_universes a b ≡ true → a ≡ b
-universes_are [] [] h = refl
-universes_are (a ∷ c) (b ∷ d) h = let p = and_parts (same_universe a b) (same_universes c d) h in ap₂ (λ x xs. x ∷ xs) (universe_is a b p.0) (universes_are c d p.1)
-universes_are _ _ h = no_false h
-
-kind_is : (a b : BinderKind) → same_kind a b ≡ true → a ≡ b
-kind_is Explicit Explicit h = refl
-kind_is Implicit Implicit h = refl
-kind_is _ _ h = no_false h
-
-binder_is : (a b : Binder) → same_binder a b ≡ true → a ≡ b
-binder_is a b h =
-    let p = and_parts (same_path a.name b.name) (same_kind a.kind b.kind) h in
-    let n = path_is a.name b.name p.0 in
-    let k = kind_is a.kind b.kind p.1 in
-    λ i. record { name = n i; kind = k i }
-
-pub term_is : (a b : Term) → same a b ≡ true → a ≡ b
-term_is (bound a) (bound b) h = ap bound (eqb-true a b h)
-term_is (free a) (free b) h = ap free (eqb-true a b h)
-term_is (meta a) (meta b) h = ap meta (eqb-true a b h)
-term_is (sort a) (sort b) h = ap sort (universe_is a b h)
-term_is (const a c) (const b d) h = let p = and_parts (same_path a b) (same_universes c d) h in ap₂ const (path_is a b p.0) (universes_are c d p.1)
-term_is (app a c) (app b d) h = let p = and_parts (same a b) (same c d) h in ap₂ app (term_is a b p.0) (term_is c d p.1)
-term_is (lam x a c) (lam y b d) h =
-    let p = and_parts (same_binder x y && same a b) (same c d) h in
-    let q = and_parts (same_binder x y) (same a b) p.0 in
-    cc (binder_is x y q.0, term_is a b q.1, term_is c d p.1)
-term_is (pi x a c) (pi y b d) h =
-    let p = and_parts (same_binder x y && same a b) (same c d) h in
-    let q = and_parts (same_binder x y) (same a b) p.0 in
-    cc (binder_is x y q.0, term_is a b q.1, term_is c d p.1)
-term_is (letin x a c e) (letin y b d f) h =
-    let p = and_parts (same_binder x y && same a b && same c d) (same e f) h in
-    let q = and_parts (same_binder x y && same a b) (same c d) p.0 in
-    let r = and_parts (same_binder x y) (same a b) q.0 in
-    cc (binder_is x y r.0, term_is a b r.1, term_is c d q.1, term_is e f p.1)
-term_is (lit a) (lit b) h = ap lit (eqb-true a b h)
-term_is _ _ h = no_false h
 
 no_metavariable : (l : Universe) → has_metavariable l ≡ false → HasNoMetavariable l
 no_metavariable level_zero h = tt
@@ -79,7 +27,8 @@ tested : (l m : Universe) → has_metavariable l ≡ false → has_metavariable 
 tested l m p q g h =
     let a = or_parts (nat_lt 8 (length (parameters_of l m))) (nat_lt 1024 (level_depth l) || nat_lt 1024 (level_depth m)) g in
     let b = or_parts (nat_lt 1024 (level_depth l)) (nat_lt 1024 (level_depth m)) a.1 in
-    (same_answer l m (parameters_of l m) (both_orders l m) refl (no_metavariable l p) (no_metavariable m q) (ltb-false 1024 (level_depth l) b.0) (ltb-false 1024 (level_depth m) b.1) refl).0 h
+    (same_answer l m (parameters_of l m) (both_orders l m) refl (no_metavariable l p) (no_metavariable m q) (ltb-false 1024 (level_depth l) b.0)
+    (ltb-false 1024 (level_depth m) b.1) refl).0 h
 
 -- Levels that the test says are the same are the same.
 pub level_same : (l m : Universe) → is_same l m ≡ true → Same l m
@@ -114,13 +63,16 @@ within l m d d' n =
     or_from (nat_lt 8 (length (parameters_of l m))) (nat_lt 1024 (level_depth l) || nat_lt 1024 (level_depth m)) (not_above 8 (length (parameters_of l m)) n)
     (or_from (nat_lt 1024 (level_depth l)) (nat_lt 1024 (level_depth m)) (not_above 1024 (level_depth l) d) (not_above 1024 (level_depth m) d'))
 
-test_is : (l m : Universe) → HasNoMetavariable l → HasNoMetavariable m → level_depth l ≤ 1024 → level_depth m ≤ 1024 → length (parameters_of l m) ≤ 8 → is_same l m ≡ both_orders l m
+test_is : (l m : Universe) → HasNoMetavariable l → HasNoMetavariable m → level_depth l ≤ 1024 → level_depth m ≤ 1024 → length (parameters_of l m) ≤ 8
+    → is_same l m ≡ both_orders l m
 unfolding is_same
 test_is l m o o' d d' n =
-    cond-false (has_metavariable l || has_metavariable m) (same_universe l m) _ (or_from (has_metavariable l) (has_metavariable m) (found_none l o) (found_none m o'))
+    cond-false (has_metavariable l || has_metavariable m) (same_universe l m) _
+    (or_from (has_metavariable l) (has_metavariable m) (found_none l o) (found_none m o'))
     ∙ cond-false (is_too_great l m) false (both_orders l m) (within l m d d' n)
 
-level_exact : (l m : Universe) → HasNoMetavariable l → HasNoMetavariable m → level_depth l ≤ 1024 → level_depth m ≤ 1024 → length (parameters_of l m) ≤ 8 → (is_same l m ≡ true) ↔ Same l m
+level_exact : (l m : Universe) → HasNoMetavariable l → HasNoMetavariable m → level_depth l ≤ 1024 → level_depth m ≤ 1024 → length (parameters_of l m) ≤ 8
+    → (is_same l m ≡ true) ↔ Same l m
 level_exact l m o o' d d' n = same_answer l m (parameters_of l m) (is_same l m) refl o o' d d' (test_is l m o o' d d' n)
 
 -- The same of the order.
@@ -142,13 +94,16 @@ level_at_most l m =
     (λ e. cond_both (is_too_great l m) false (one_order l m) (λ b. b ≡ true → Leq l m) (λ g h. no_false h)
     (λ g h. let p = or_parts (has_metavariable l) (has_metavariable m) e in ordered l m p.0 p.1 g h))
 
-order_is : (l m : Universe) → HasNoMetavariable l → HasNoMetavariable m → level_depth l ≤ 1024 → level_depth m ≤ 1024 → length (parameters_of l m) ≤ 8 → is_at_most l m ≡ one_order l m
+order_is : (l m : Universe) → HasNoMetavariable l → HasNoMetavariable m → level_depth l ≤ 1024 → level_depth m ≤ 1024 → length (parameters_of l m) ≤ 8
+    → is_at_most l m ≡ one_order l m
 unfolding is_at_most
 order_is l m o o' d d' n =
-    cond-false (has_metavariable l || has_metavariable m) (same_universe l m) _ (or_from (has_metavariable l) (has_metavariable m) (found_none l o) (found_none m o'))
+    cond-false (has_metavariable l || has_metavariable m) (same_universe l m) _
+    (or_from (has_metavariable l) (has_metavariable m) (found_none l o) (found_none m o'))
     ∙ cond-false (is_too_great l m) false (one_order l m) (within l m d d' n)
 
-pub order_exact : (l m : Universe) → HasNoMetavariable l → HasNoMetavariable m → level_depth l ≤ 1024 → level_depth m ≤ 1024 → length (parameters_of l m) ≤ 8 → (is_at_most l m ≡ true) ↔ Leq l m
+pub order_exact : (l m : Universe) → HasNoMetavariable l → HasNoMetavariable m → level_depth l ≤ 1024 → level_depth m ≤ 1024 → length (parameters_of l m) ≤ 8
+    → (is_at_most l m ≡ true) ↔ Leq l m
 order_exact l m o o' d d' n = leq_answer l m (parameters_of l m) (is_at_most l m) refl o o' d' (order_is l m o o' d d' n)
 
 pub level_test_is_exact : LevelTestIsExact

@@ -1,4 +1,4 @@
 pub mod Levels
 pub mod Soundness
 pub mod Declarations
-pub mod Worked
+pub mod Limits

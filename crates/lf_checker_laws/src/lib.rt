@@ -1,10 +1,10 @@
-//! Soundness of the plain checker, and its worked answers: each public function's contract is a law.
+//! Soundness of the plain checker: each public function's contract is a law.
 #![tactic(auto)]
 
-ghost use Rattle.lf_checker_laws.specs.Declarations.{AcceptedIsDerived, DerivedIsClosedList, DerivedSoundness};
+ghost use Rattle.lf_checker_laws.specs.Declarations.{AcceptedIsDerived, AcceptedIsFound, DerivedIsClosedList, DerivedSoundness};
 ghost use Rattle.lf_checker_laws.specs.Levels.{LevelTestIsExact};
-ghost use Rattle.lf_checker_laws.specs.Soundness.{Soundness};
-ghost use Rattle.lf_checker_laws.specs.Worked.{Answers};
+ghost use Rattle.lf_checker_laws.specs.Limits.{LimitsAreKept};
+ghost use Rattle.lf_checker_laws.specs.Soundness.{LevelsAreKept, Soundness};
 
 /// The checker's test of levels passes exactly what is the same under every assignment, within its limits.
 pub fn level_test_is_exact()
@@ -15,6 +15,11 @@ pub fn level_test_is_exact()
 /// normal forms are equal to the term. They name no constant of the view outside the list.
 pub fn checker_is_sound()
     ensures { Soundness }
+{}
+
+/// What the checker gives of a term at levels below n is at levels below n: types, their levels, weak head and normal forms.
+pub fn levels_stay_below()
+    ensures { LevelsAreKept }
 {}
 
 /// A derived list of constants that the view knows is one over which the checker is sound.
@@ -32,7 +37,12 @@ pub fn accepted_is_derived()
     ensures { AcceptedIsDerived }
 {}
 
-/// Answers that are known from elsewhere.
-pub fn worked_answers()
-    ensures { Answers }
+/// What `infer` accepts names only constants that the view finds; so its names are declared in a list that has what the view finds of them.
+pub fn accepted_terms_are_known()
+    ensures { AcceptedIsFound }
+{}
+
+/// A term of more than 1,024 nodes in depth is never put together, and no variable has a number above 4,294,967,294.
+pub fn limits_are_kept()
+    ensures { LimitsAreKept }
 {}

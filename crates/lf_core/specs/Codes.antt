@@ -1,12 +1,30 @@
 -- Codes by which trees are told apart.
-use Rattle.std.specs.Prelude.{ℕ, zero, suc, List, [], ◌∷◌, ◌≡◌, refl}
+use Rattle.std.specs.Prelude.{zero, suc, List, [], ◌∷◌, ◌≡◌, refl}
 use Rattle.std.proofs.Common.{ap, sym, ◌∙◌}
 use Rattle.std.specs.Coded.{Coded}
 use base.Stored.{Gv, gnil, gnum, gcons}
-use Rattle.lf_core.specs.Term.{Universe, level_zero, level_succ, level_max, level_imax, level_param, level_meta, Term, bound, free, meta, sort, const, app, lam, pi, letin, lit, Path}
-use Rattle.lf_core.specs.declared.binder.Binder.{Binder}
-use Rattle.lf_core.specs.declared.binder.BinderKind.{BinderKind}
-use Rattle.lf_core.specs.declared.binder.BinderKind.TheVariants.{Explicit, Implicit}
+pub use Rattle.lf_name.specs.Codes.{path, to_path, path_back, kind, to_kind, kind_back, binder, to_binder, binder_back}
+use Rattle.lf_core.specs.Term.{
+  Universe,
+  level_zero,
+  level_succ,
+  level_max,
+  level_imax,
+  level_param,
+  level_meta,
+  Term,
+  bound,
+  free,
+  meta,
+  sort,
+  const,
+  app,
+  lam,
+  pi,
+  letin,
+  lit,
+  proj,
+}
 
 -- A level as a tree of numbers, and back.
 abbrev pub code : Universe → Gv
@@ -48,52 +66,6 @@ pub levels_back : (ls : List Universe) → to_levels (levels ls) ≡ ls
 levels_back [] = refl
 levels_back (l ∷ ls) = λ i. back l i ∷ levels_back ls i
 
-abbrev pub word : List ℕ → Gv
-word [] = gnil
-word (n ∷ ns) = gcons (gnum n) (word ns)
-
-abbrev pub to_word : Gv → List ℕ
-to_word (gcons (gnum n) ns) = n ∷ to_word ns
-to_word _ = []
-
-pub word_back : (ns : List ℕ) → to_word (word ns) ≡ ns
-word_back [] = refl
-word_back (n ∷ ns) = λ i. n ∷ word_back ns i
-
-abbrev pub path : Path → Gv
-path [] = gnil
-path (w ∷ ws) = gcons (word w) (path ws)
-
-abbrev pub to_path : Gv → Path
-to_path (gcons w ws) = to_word w ∷ to_path ws
-to_path _ = []
-
-pub path_back : (ws : Path) → to_path (path ws) ≡ ws
-path_back [] = refl
-path_back (w ∷ ws) = λ i. word_back w i ∷ path_back ws i
-
-abbrev pub kind : BinderKind → Gv
-kind Explicit = gnil
-kind Implicit = gnum 0
-
-abbrev pub to_kind : Gv → BinderKind
-to_kind gnil = Explicit
-to_kind _ = Implicit
-
-pub kind_back : (k : BinderKind) → to_kind (kind k) ≡ k
-kind_back Explicit = refl
-kind_back Implicit = refl
-
-abbrev pub binder : Binder → Gv
-binder x = gcons (path x.name) (kind x.kind)
-
-abbrev pub to_binder : Gv → Binder
-to_binder (gcons p k) = record { name = to_path p; kind = to_kind k }
-to_binder _ = record { name = []; kind = Explicit }
-
-pub binder_back : (x : Binder) → to_binder (binder x) ≡ x
-binder_back x = λ i. record { name = path_back x.name i; kind = kind_back x.kind i }
-
 abbrev pub term : Term → Gv
 term (bound k) = gnum k
 term (free k) = gcons (gnum 0) (gnum k)
@@ -105,6 +77,7 @@ term (lam x a b) = gcons (gnum 5) (gcons (binder x) (gcons (term a) (term b)))
 term (pi x a b) = gcons (gnum 6) (gcons (binder x) (gcons (term a) (term b)))
 term (letin x a v b) = gcons (gnum 7) (gcons (binder x) (gcons (term a) (gcons (term v) (term b))))
 term (lit n) = gcons gnil (gnum n)
+term (proj s i t) = gcons (gnum 8) (gcons (path s) (gcons (gnum i) (term t)))
 
 abbrev pub to_term : Gv → Term
 to_term (gnum k) = bound k
@@ -117,6 +90,7 @@ to_term (gcons (gnum (suc (suc (suc (suc zero))))) (gcons f a)) = app (to_term f
 to_term (gcons (gnum (suc (suc (suc (suc (suc zero)))))) (gcons x (gcons a b))) = lam (to_binder x) (to_term a) (to_term b)
 to_term (gcons (gnum (suc (suc (suc (suc (suc (suc zero))))))) (gcons x (gcons a b))) = pi (to_binder x) (to_term a) (to_term b)
 to_term (gcons (gnum (suc (suc (suc (suc (suc (suc (suc zero)))))))) (gcons x (gcons a (gcons v b)))) = letin (to_binder x) (to_term a) (to_term v) (to_term b)
+to_term (gcons (gnum (suc (suc (suc (suc (suc (suc (suc (suc zero))))))))) (gcons s (gcons (gnum i) t))) = proj (to_path s) i (to_term t)
 to_term _ = bound 0
 
 pub term_back : (t : Term) → to_term (term t) ≡ t
@@ -130,6 +104,7 @@ term_back (lam x a b) = λ i. lam (binder_back x i) (term_back a i) (term_back b
 term_back (pi x a b) = λ i. pi (binder_back x i) (term_back a i) (term_back b i)
 term_back (letin x a v b) = λ i. letin (binder_back x i) (term_back a i) (term_back v i) (term_back b i)
 term_back (lit n) = refl
+term_back (proj s j t) = λ i. proj (path_back s i) j (term_back t i)
 
 abbrev pub coded_term : Coded Term
 coded_term = record { code = term; inj = λ x y p. sym (term_back x) ∙ ap to_term p ∙ term_back y }

@@ -2,6 +2,7 @@ pub mod Term
 pub mod Codes
 pub mod Node
 pub mod Size
+pub mod Summary
 pub mod ExprNode
 pub mod Same
 pub mod Level
@@ -9,10 +10,4 @@ pub mod Substitution
 pub mod Literal
 pub mod Spine
 pub mod Scope
-pub mod Environment
-pub mod Step
-pub mod Judgment
-pub mod Telescope
-pub mod Recursor
-pub mod Inductive
-pub mod Derived
+pub mod Suffix

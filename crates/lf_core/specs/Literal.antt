@@ -1,7 +1,28 @@
 -- What functions of `Nat` give on literals.
 -- Lean 4 reference manual, "Natural Numbers": the kernel computes these functions on literals.
 -- That a literal is below 2^128 is this project's.
-use Rattle.std.specs.Prelude.{ℕ, ◌+◌, ◌-◌, ◌*◌, ◌/◌, ◌%◌, nat_eq, nat_lt, nat_le, bit_and, if◌then◌else◌, List, [], ◌∷◌, drop, Option, Some, None, option_and_then, codes}
+use Rattle.std.specs.Prelude.{
+  ℕ,
+  ◌+◌,
+  ◌-◌,
+  ◌*◌,
+  ◌/◌,
+  ◌%◌,
+  nat_eq,
+  nat_lt,
+  nat_le,
+  bit_and,
+  if◌then◌else◌,
+  List,
+  [],
+  ◌∷◌,
+  drop,
+  Option,
+  Some,
+  None,
+  option_and_then,
+  codes,
+}
 use Rattle.std.specs.Int.Bits.{bit_or, bit_xor}
 use Rattle.std.specs.Str.{bytes_eq}
 use Rattle.std.specs.List.{starts_with}

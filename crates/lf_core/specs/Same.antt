@@ -1,15 +1,27 @@
 -- Whether two trees are the same, binder names and kinds included.
 use Rattle.std.specs.Prelude.{Bool, true, false, ◌&&◌, ◌==◌, List, [], ◌∷◌}
-use Rattle.std.specs.Str.{bytes_eq}
-use Rattle.lf_core.specs.declared.binder.Binder.{Binder}
-use Rattle.lf_core.specs.declared.binder.BinderKind.{BinderKind}
-use Rattle.lf_core.specs.declared.binder.BinderKind.TheVariants.{Explicit, Implicit}
-use Rattle.lf_core.specs.Term.{Path, Universe, level_zero, level_succ, level_max, level_imax, level_param, level_meta, Term, bound, free, meta, sort, const, app, lam, pi, letin, lit}
-
-abbrev pub same_path : Path → Path → Bool
-same_path [] [] = true
-same_path (x ∷ xs) (y ∷ ys) = bytes_eq x y && same_path xs ys
-same_path _ _ = false
+pub use Rattle.lf_name.specs.Same.{same_path, same_kind, same_binder}
+use Rattle.lf_core.specs.Term.{
+  Universe,
+  level_zero,
+  level_succ,
+  level_max,
+  level_imax,
+  level_param,
+  level_meta,
+  Term,
+  bound,
+  free,
+  meta,
+  sort,
+  const,
+  app,
+  lam,
+  pi,
+  letin,
+  lit,
+  proj,
+}
 
 abbrev pub same_universe : Universe → Universe → Bool
 same_universe level_zero level_zero = true
@@ -25,14 +37,6 @@ same_universes [] [] = true
 same_universes (x ∷ xs) (y ∷ ys) = same_universe x y && same_universes xs ys
 same_universes _ _ = false
 
-abbrev pub same_kind : BinderKind → BinderKind → Bool
-same_kind Explicit Explicit = true
-same_kind Implicit Implicit = true
-same_kind _ _ = false
-
-abbrev pub same_binder : Binder → Binder → Bool
-same_binder x y = same_path x.name y.name && same_kind x.kind y.kind
-
 abbrev pub same : Term → Term → Bool
 same (bound j) (bound k) = j == k
 same (free j) (free k) = j == k
@@ -44,4 +48,5 @@ same (lam x a b) (lam y c d) = same_binder x y && same a c && same b d
 same (pi x a b) (pi y c d) = same_binder x y && same a c && same b d
 same (letin x a v b) (letin y c w d) = same_binder x y && same a c && same v w && same b d
 same (lit m) (lit n) = m == n
+same (proj s i t) (proj r j u) = same_path s r && (i == j) && same t u
 same _ _ = false

@@ -1,6 +1,26 @@
 -- The number of nodes of a term, and the nodes on its longest path.
 use Rattle.std.specs.Prelude.{ℕ, ◌+◌, max, List, [], ◌∷◌}
-use Rattle.lf_core.specs.Term.{Universe, level_zero, level_succ, level_max, level_imax, level_param, level_meta, Term, bound, free, meta, sort, const, app, lam, pi, letin, lit}
+use Rattle.lf_core.specs.Term.{
+  Universe,
+  level_zero,
+  level_succ,
+  level_max,
+  level_imax,
+  level_param,
+  level_meta,
+  Term,
+  bound,
+  free,
+  meta,
+  sort,
+  const,
+  app,
+  lam,
+  pi,
+  letin,
+  lit,
+  proj,
+}
 
 abbrev pub level_node_count : Universe → ℕ
 level_node_count level_zero = 1
@@ -25,6 +45,7 @@ node_count (lam x a b) = node_count a + node_count b + 1
 node_count (pi x a b) = node_count a + node_count b + 1
 node_count (letin x a v b) = node_count a + node_count v + node_count b + 1
 node_count (lit n) = 1
+node_count (proj s i t) = node_count t + 1
 
 abbrev pub level_depth : Universe → ℕ
 level_depth level_zero = 1
@@ -49,3 +70,4 @@ depth (lam x a b) = max (depth a) (depth b) + 1
 depth (pi x a b) = max (depth a) (depth b) + 1
 depth (letin x a v b) = max (depth a) (max (depth v) (depth b)) + 1
 depth (lit n) = 1
+depth (proj s i t) = depth t + 1

@@ -2,7 +2,27 @@
 -- a bound variable is a de Bruijn index, a free one its place in the context.
 -- The standard operations (de Bruijn 1972; Charguéraud 2012, "The Locally Nameless Representation").
 use Rattle.std.specs.Prelude.{ℕ, suc, ◌+◌, ◌-◌, nat_eq, nat_lt, if◌then◌else◌, List, map, slice_get, unwrap_or}
-use Rattle.lf_core.specs.Term.{Universe, level_zero, level_succ, level_max, level_imax, level_param, level_meta, Term, bound, free, meta, sort, const, app, lam, pi, letin, lit}
+use Rattle.lf_core.specs.Term.{
+  Universe,
+  level_zero,
+  level_succ,
+  level_max,
+  level_imax,
+  level_param,
+  level_meta,
+  Term,
+  bound,
+  free,
+  meta,
+  sort,
+  const,
+  app,
+  lam,
+  pi,
+  letin,
+  lit,
+  proj,
+}
 
 -- t with n more binders round it: its loose bound variables from d on are raised by n.
 abbrev pub raise : ℕ → ℕ → Term → Term
@@ -16,6 +36,7 @@ raise d n (lam x a b) = lam x (raise d n a) (raise (suc d) n b)
 raise d n (pi x a b) = pi x (raise d n a) (raise (suc d) n b)
 raise d n (letin x a v b) = letin x (raise d n a) (raise d n v) (raise (suc d) n b)
 raise d n (lit m) = lit m
+raise d n (proj s i t) = proj s i (raise d n t)
 
 -- A variable under d binders where the next binder outside them is taken away and arg put for its variable.
 abbrev pub instantiate_variable : ℕ → Term → ℕ → Term
@@ -32,6 +53,7 @@ instantiate_at d (lam x a b) arg = lam x (instantiate_at d a arg) (instantiate_a
 instantiate_at d (pi x a b) arg = pi x (instantiate_at d a arg) (instantiate_at (suc d) b arg)
 instantiate_at d (letin x a v b) arg = letin x (instantiate_at d a arg) (instantiate_at d v arg) (instantiate_at (suc d) b arg)
 instantiate_at d (lit m) arg = lit m
+instantiate_at d (proj s i t) arg = proj s i (instantiate_at d t arg)
 
 -- The body of a binder with arg for its variable.
 abbrev pub instantiate : Term → Term → Term
@@ -48,6 +70,7 @@ abstract_at d (lam x a b) k = lam x (abstract_at d a k) (abstract_at (suc d) b k
 abstract_at d (pi x a b) k = pi x (abstract_at d a k) (abstract_at (suc d) b k)
 abstract_at d (letin x a v b) k = letin x (abstract_at d a k) (abstract_at d v k) (abstract_at (suc d) b k)
 abstract_at d (lit m) k = lit m
+abstract_at d (proj s i t) k = proj s i (abstract_at d t k)
 
 -- The body of a binder whose variable stands where t has Free(k); loose variables of t stay loose.
 abbrev pub abstract : Term → ℕ → Term
@@ -74,3 +97,4 @@ level_instantiate ls (lam x a b) = lam x (level_instantiate ls a) (level_instant
 level_instantiate ls (pi x a b) = pi x (level_instantiate ls a) (level_instantiate ls b)
 level_instantiate ls (letin x a v b) = letin x (level_instantiate ls a) (level_instantiate ls v) (level_instantiate ls b)
 level_instantiate ls (lit m) = lit m
+level_instantiate ls (proj s i t) = proj s i (level_instantiate ls t)

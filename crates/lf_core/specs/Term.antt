@@ -1,9 +1,7 @@
 -- Names, levels and terms as plain trees.
 use Rattle.std.specs.Prelude.{ℕ, List}
-use Rattle.lf_core.specs.declared.binder.Binder.{Binder}
-
-abbrev pub Path : Type 0
-Path = List (List ℕ)
+use Rattle.lf_name.specs.declared.binder.Binder.{Binder}
+pub use Rattle.lf_name.specs.Name.{Path}
 
 pub data Universe : Type 0 where
   level_zero : Universe
@@ -24,3 +22,4 @@ pub data Term : Type 0 where
   pi : Binder → Term → Term → Term
   letin : Binder → Term → Term → Term → Term
   lit : ℕ → Term
+  proj : Path → ℕ → Term → Term

@@ -1,8 +1,9 @@
+//! Constants and inductive declarations.
 ghost use Rattle.std.specs.Prelude.{◌≡◌, IfOk};
 
 use crate::expr::Expr;
-use crate::memory::NoMemory;
-use crate::name::Name;
+use lf_base::NoMemory;
+use lf_name::Name;
 use sqlite_items::Items;
 use std::alloc::Global;
 

@@ -1,21 +1,31 @@
-ghost use Rattle.std.specs.Prelude.{◌≡◌, ◌↔◌, IsTrue, IfOk, IfSome};
+//! Universe levels, as shared trees.
+ghost use Rattle.std.specs.Prelude.{◌≡◌, ◌↔◌, IsTrue, false, IfOk, IfSome};
 ghost use Rattle.lf_core.specs.Term.{level_zero, level_succ, level_max, level_imax, level_param, level_meta};
 ghost use Rattle.lf_core.specs.Same.{same_universe};
 ghost use Rattle.lf_core.specs.Node.{universe_of};
 ghost use Rattle.lf_core.specs.Size as size;
+ghost use Rattle.lf_core.specs.Summary.{OfLevel, level_has_metavariable, level_has_parameter};
 ghost use Rattle.lf_core.specs.Substitution.{level_substitute};
 
-use crate::memory::NoMemory;
+use crate::summary::LevelSummary;
+use lf_base::NoMemory;
 use std::alloc::Global;
 use std::marker::Model;
+use std::sync::Arc;
 
-/// A universe level, which contracts see as the plain tree `Universe`.
+/// A universe level, which contracts see as the plain tree `Universe`. Copies share their nodes.
 #[cycle(level)]
 #[derive(Debug, Drop)]
 pub struct Level {
-    node: Box<LevelNode>,
-    nodes: u64,
-    path: u32,
+    kept: Arc<KeptLevel>,
+}
+
+/// A level's form, and beside it what is kept.
+#[cycle(level)]
+#[derive(Debug, Drop)]
+pub struct KeptLevel {
+    node: LevelNode,
+    summary: LevelSummary,
 }
 
 /// The forms of levels. `Param(k)` is the k-th name of the declaration's list, `Meta(k)` a metavariable.
@@ -39,12 +49,14 @@ impl Model for Level {
 
     ghost coded = { coded_universe };
 
-    ghost use Rattle.lf_core.specs.Size.{level_node_count, level_depth};
+    ghost use Rattle.lf_core.specs.Size.{level_node_count};
+    ghost use Rattle.lf_core.specs.Summary.{OfLevel};
     ghost use Rattle.lf_core.specs.Node.{universe_of};
+    ghost use Rattle.std.specs.Arc.{arc_value};
 
-    ghost view = { λ l. universe_of l.node.value };
+    ghost view = { λ l. universe_of (arc_value l.kept).node };
 
-    ghost invariant = { λ l. (l.nodes ≡ level_node_count (universe_of l.node.value)) × (l.path ≡ level_depth (universe_of l.node.value)) };
+    ghost invariant = { λ l. OfLevel (arc_value l.kept).summary (universe_of (arc_value l.kept).node) };
 
     ghost size = { level_node_count };
 }
@@ -52,28 +64,50 @@ impl Model for Level {
 /// Lets a level go, so that no caller's proof follows its parts.
 pub fn discard_level(_level: Level) {}
 
-fn discard_node(_node: Box<LevelNode>) {}
+fn discard_node(_node: LevelNode) {}
 
-fn count(node: &LevelNode) -> Option<u64>
-    ensures { IfSome result (λ n. n ≡ size.level_node_count (universe_of node.now)) }
+// What is kept beside this form.
+fn summarize(node: &LevelNode) -> Option<LevelSummary>
+    ensures { IfSome result (λ s. OfLevel s (universe_of node.now)) }
 {
     match node {
-        LevelNode::Zero | LevelNode::Param(_) | LevelNode::Meta(_) => Some(1),
-        LevelNode::Succ(l) => l.nodes.checked_add(1),
-        LevelNode::Max(l, m) | LevelNode::Imax(l, m) => l
-            .nodes
-            .checked_add(m.nodes)?
-            .checked_add(1),
-    }
-}
-
-fn longest(node: &LevelNode) -> Option<u32>
-    ensures { IfSome result (λ n. n ≡ size.level_depth (universe_of node.now)) }
-{
-    match node {
-        LevelNode::Zero | LevelNode::Param(_) | LevelNode::Meta(_) => Some(1),
-        LevelNode::Succ(l) => l.path.checked_add(1),
-        LevelNode::Max(l, m) | LevelNode::Imax(l, m) => l.path.max(m.path).checked_add(1),
+        LevelNode::Zero => Some(LevelSummary {
+            nodes: 1,
+            depth: 1,
+            metavariable: false,
+            parameter: false,
+        }),
+        LevelNode::Succ(l) => {
+            let l = l.summary();
+            Some(LevelSummary {
+                nodes: l.nodes.checked_add(1)?,
+                depth: l.depth.checked_add(1)?,
+                metavariable: l.metavariable,
+                parameter: l.parameter,
+            })
+        }
+        LevelNode::Max(l, m) | LevelNode::Imax(l, m) => {
+            let l = l.summary();
+            let m = m.summary();
+            Some(LevelSummary {
+                nodes: l.nodes.checked_add(m.nodes)?.checked_add(1)?,
+                depth: l.depth.max(m.depth).checked_add(1)?,
+                metavariable: l.metavariable || m.metavariable,
+                parameter: l.parameter || m.parameter,
+            })
+        }
+        LevelNode::Param(_) => Some(LevelSummary {
+            nodes: 1,
+            depth: 1,
+            metavariable: false,
+            parameter: true,
+        }),
+        LevelNode::Meta(_) => Some(LevelSummary {
+            nodes: 1,
+            depth: 1,
+            metavariable: true,
+            parameter: false,
+        }),
     }
 }
 
@@ -82,10 +116,11 @@ impl Level {
     pub fn of(alloc: Global, node: LevelNode) -> Result<Level, NoMemory>
         ensures { IfOk result (λ t. t ≡ universe_of node) }
     {
-        let node = Box::new(alloc, node)?;
-        match (count(&node), longest(&node)) {
-            (Some(nodes), Some(path)) => Ok(Level { node, nodes, path }),
-            _ => {
+        match summarize(&node) {
+            Some(summary) => Ok(Level {
+                kept: Arc::new(alloc, KeptLevel { node, summary })?,
+            }),
+            None => {
                 discard_node(node);
                 Err(NoMemory)
             }
@@ -96,33 +131,42 @@ impl Level {
     pub fn node(&self) -> &LevelNode
         ensures { universe_of result.now ≡ self.now }
     {
-        &self.node
+        &self.kept.node
     }
 
-    /// The form of the level, with its parts, taken out.
-    pub fn into_node(self) -> LevelNode
-        ensures { universe_of result ≡ self }
+    // What is kept beside the form.
+    fn summary(&self) -> LevelSummary
+        ensures { OfLevel result self.now }
     {
-        let Level {
-            node,
-            nodes: _,
-            path: _,
-        } = self;
-        Box::into_inner(node)
+        self.kept.summary
+    }
+
+    /// Whether a metavariable stands in the level.
+    pub fn has_metavariable(&self) -> bool
+        ensures { result ≡ level_has_metavariable self.now }
+    {
+        self.summary().metavariable
+    }
+
+    /// Whether a parameter stands in the level.
+    pub fn has_parameter(&self) -> bool
+        ensures { result ≡ level_has_parameter self.now }
+    {
+        self.summary().parameter
     }
 
     /// The number of nodes.
     pub fn node_count(&self) -> u64
         ensures { result ≡ size.level_node_count self.now }
     {
-        self.nodes
+        self.summary().nodes
     }
 
     /// The number of nodes on the longest path.
     pub fn depth(&self) -> u32
         ensures { result ≡ size.level_depth self.now }
     {
-        self.path
+        self.summary().depth
     }
 
     /// Level 0.
@@ -167,25 +211,25 @@ impl Level {
         Level::of(alloc, LevelNode::Meta(number))
     }
 
-    /// An equal level.
-    pub fn copy(&self, alloc: Global) -> Result<Level, NoMemory>
+    /// The same level; copies share their nodes. It takes no memory, but a count of owners that is at its end is refused.
+    pub fn copy(&self, _alloc: Global) -> Result<Level, NoMemory>
         ensures { IfOk result (λ t. t ≡ self.now) }
     {
-        match &*self.node {
-            LevelNode::Zero => Level::zero(alloc),
-            LevelNode::Succ(l) => Level::succ(alloc, l.copy(alloc)?),
-            LevelNode::Max(l, m) => Level::max(alloc, l.copy(alloc)?, m.copy(alloc)?),
-            LevelNode::Imax(l, m) => Level::imax(alloc, l.copy(alloc)?, m.copy(alloc)?),
-            LevelNode::Param(k) => Level::param(alloc, *k),
-            LevelNode::Meta(k) => Level::meta(alloc, *k),
-        }
+        Ok(Level {
+            kept: Arc::try_clone(&self.kept)?,
+        })
     }
 
-    /// This level with an argument for each parameter. A parameter past the arguments stays.
+    /// This level with an argument for each parameter. A parameter past the arguments stays, and a level without
+    /// parameters is handed back.
+    #[tactic(auto, using(crate::proofs::Unchanged::level_unchanged))]
     pub fn substitute(&self, alloc: Global, args: &[Level]) -> Result<Level, NoMemory>
         ensures { IfOk result (λ t. t ≡ level_substitute args.now self.now) }
     {
-        match &*self.node {
+        if !self.has_parameter() {
+            return self.copy(alloc);
+        }
+        match self.node() {
             LevelNode::Zero => Level::zero(alloc),
             LevelNode::Succ(l) => Level::succ(alloc, l.substitute(alloc, args)?),
             LevelNode::Max(l, m) => {
@@ -204,19 +248,29 @@ impl Level {
         }
     }
 
-    /// Whether the two levels are the same tree.
+    // Whether the same is kept beside the two, as it is beside equal levels.
+    #[tactic(auto, using(crate::proofs::Trees::levels_apart))]
+    fn may_be(&self, other: &Level) -> bool
+        ensures apart { (self.now ≡ other.now) → IsTrue result }
+        ensures tested { result ≡ false → same_universe self.now other.now ≡ false }
+    {
+        self.summary().is(other.summary())
+    }
+
+    /// Whether the two levels are the same tree. Levels of which something else is kept aren't walked.
     pub fn is(&self, other: &Level) -> bool
         ensures exact { IsTrue result ↔ (self.now ≡ other.now) }
         ensures same { result ≡ same_universe self.now other.now }
     {
-        match (&*self.node, &*other.node) {
-            (LevelNode::Zero, LevelNode::Zero) => true,
-            (LevelNode::Succ(l), LevelNode::Succ(m)) => l.is(m),
-            (LevelNode::Max(l, m), LevelNode::Max(j, k)) => l.is(j) && m.is(k),
-            (LevelNode::Imax(l, m), LevelNode::Imax(j, k)) => l.is(j) && m.is(k),
-            (LevelNode::Param(j), LevelNode::Param(k)) => *j == *k,
-            (LevelNode::Meta(j), LevelNode::Meta(k)) => *j == *k,
-            _ => false,
-        }
+        self.may_be(other)
+            && match (self.node(), other.node()) {
+                (LevelNode::Zero, LevelNode::Zero) => true,
+                (LevelNode::Succ(l), LevelNode::Succ(m)) => l.is(m),
+                (LevelNode::Max(l, m), LevelNode::Max(j, k)) => l.is(j) && m.is(k),
+                (LevelNode::Imax(l, m), LevelNode::Imax(j, k)) => l.is(j) && m.is(k),
+                (LevelNode::Param(j), LevelNode::Param(k)) => *j == *k,
+                (LevelNode::Meta(j), LevelNode::Meta(k)) => *j == *k,
+                _ => false,
+            }
     }
 }

@@ -1,25 +1,22 @@
-//! Names, levels, terms and constants.
+//! Levels, terms and constants.
 #![tactic(auto)]
 
-mod binder;
 mod constant;
 mod expr;
 mod level;
 mod literal;
-mod memory;
-mod name;
-mod word;
+mod suffix;
+mod summary;
 
-pub use binder::{Binder, BinderKind};
 pub use constant::{
     Ans, ConstInfo, ConstKind, CtorInfo, Detail, IndDecl, TaskKey, copy_names, copy_terms,
 };
-pub use expr::{Expr, ExprNode, copy_levels, discard, same_levels};
+pub use expr::{Expr, ExprNode, copy_levels, discard, levels_count, levels_longest, same_levels};
 pub use level::{Level, LevelNode, discard_level};
+pub use lf_base::NoMemory;
+pub use lf_name::{Binder, BinderKind, Name, Word, same_parts};
 pub use literal::{LitOut, Operation};
-pub use memory::NoMemory;
-pub use name::{Name, same_parts};
-pub use word::Word;
+pub use suffix::Suffix;
 
 #[cfg(test)]
 mod tests;

@@ -1,3 +1,4 @@
+//! What an operation on literals gives.
 /// What an operation on two literals gives.
 #[derive(Clone, Copy, Debug, PartialEq, Eq)]
 pub enum LitOut {

@@ -1,6 +1,7 @@
+//! Each call on its happy path, and sizes at their edges.
 use crate::{
     Binder, BinderKind, ConstInfo, ConstKind, CtorInfo, Detail, Expr, IndDecl, Level, Name,
-    NoMemory, TaskKey,
+    NoMemory, Suffix, TaskKey,
 };
 use sqlite_items::Items;
 use std::alloc::Global;
@@ -56,18 +57,6 @@ fn declaration(alloc: Global) -> Result<IndDecl, NoMemory> {
 }
 
 #[test]
-fn a_child_has_one_part_more(rt: HostRuntime) -> Result<(), Fail> {
-    let nat = Name::one(rt.alloc(), "Nat")?;
-    let add = nat.child(rt.alloc(), "add")?;
-    assert!(rt; add.is_child_of(&nat));
-    assert!(rt; !nat.is_child_of(&add));
-    assert!(rt; !add.is_child_of(&add));
-    assert!(rt; add.is(&add.copy(rt.alloc())?));
-    assert!(rt; !add.is(&nat));
-    Ok(())
-}
-
-#[test]
 fn levels_nodes_count(rt: HostRuntime) -> Result<(), Fail> {
     let term = sample(rt.alloc())?;
     assert_eq!(rt; (term.node_count(), term.depth()), (13, 6));
@@ -107,5 +96,19 @@ fn keys_are_copied(rt: HostRuntime) -> Result<(), Fail> {
     let key = TaskKey::Real(Name::one(rt.alloc(), "T")?);
     let copy = key.copy(rt.alloc())?;
     assert!(rt; matches!(&copy, TaskKey::Real(name) if name.parts().len() == 1));
+    Ok(())
+}
+
+#[test]
+fn suffixes_are_numbered_to_sixty_five(rt: HostRuntime) -> Result<(), Fail> {
+    assert_eq!(rt; Suffix::of("eq_1"), Some(Suffix::Eq1));
+    assert_eq!(rt; Suffix::of("eq_2"), Some(Suffix::EqAt(2)));
+    assert_eq!(rt; Suffix::of("eq_65"), Some(Suffix::EqAt(65)));
+    assert_eq!(rt; Suffix::of("injEq"), Some(Suffix::InjEq));
+    for none in [
+        "", "eq", "eq_", "eq_0", "eq_01", "eq_66", "eq_100", "Inj", "inj_1",
+    ] {
+        assert_eq!(rt; Suffix::of(none), None);
+    }
     Ok(())
 }

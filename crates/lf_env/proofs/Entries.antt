@@ -8,8 +8,9 @@ use Rattle.indexmap.specs.IndexSet.{insert_key, insert_all}
 use Rattle.lf_core.specs.Term.{Path}
 use Rattle.lf_core.specs.Same.{same_path}
 use Rattle.lf_core.specs.declared.constant.ConstInfo.{ConstInfo}
-use Rattle.lf_env.specs.View.{Entry, base_position, stands_before, find_entry, placed_from, base_entries, parent_of, last_of}
-use Rattle.lf_env.specs.Names.{same_entry, entry_equivalence, path_equivalence, path_is}
+use Rattle.lf_checker.specs.View.{Entry, base_position, stands_before, find_entry, placed_from, base_entries, parent_of, last_of}
+use Rattle.lf_env.specs.Names.{same_entry, entry_equivalence}
+use Rattle.lf_name.proofs.Names.{path_equivalence, path_is}
 use Rattle.lf_env.specs.Answer.{DistinctNames}
 use Rattle.lf_env.specs.Layer.{is_within, entries_of, has_name}
 
@@ -96,7 +97,7 @@ absent_placed p (e ∷ es) n h k =
     (absent_placed p es n (or_right (has_name n e) (list_any (has_name n) es) h))
 
 -- No entry has a name that the entry in front of them has.
-others_apart : (e : Entry) (es : List Entry) (n : Path) → has_name n e ≡ true → AllByRecursion (λ d. same_entry e d ≡ false) es → list_any (has_name n) es ≡ false
+pub others_apart : (e : Entry) (es : List Entry) (n : Path) → has_name n e ≡ true → AllByRecursion (λ d. same_entry e d ≡ false) es → list_any (has_name n) es ≡ false
 others_apart e [] n h a = refl
 others_apart e (d ∷ es) n h a =
     let apart : has_name n d ≡ false =
@@ -311,7 +312,7 @@ insert_all_distinct xs (y ∷ ys) d =
     ap (λ l. insert_all same_entry l ys) put
     ∙ insert_all_distinct (xs ++ y ∷ []) ys (subst (IsDistinct same_entry) (sym same) d) ∙ same
 
-distinct_nil : IsDistinct same_entry []
+pub distinct_nil : IsDistinct same_entry []
 unfolding IsDistinct
 distinct_nil = tt
 

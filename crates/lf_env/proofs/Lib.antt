@@ -1,3 +1,7 @@
 pub mod Entries
 pub mod Turns
-pub mod Answers
+pub mod Shown
+pub mod Changes
+pub mod Parents
+pub mod Joins
+pub mod Few

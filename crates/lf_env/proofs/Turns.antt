@@ -6,11 +6,11 @@ use Rattle.std.proofs.lemmas.List.{take-append-drop, take_all, take_more}
 use Rattle.std.proofs.lemmas.List.Sums.{fold-append}
 use Rattle.indexmap.specs.IndexSet.{insert_key, insert_all}
 use Rattle.lf_core.specs.declared.constant.ConstInfo.{ConstInfo}
-use Rattle.lf_env.specs.View.{Entry, base_position, placed_from, base_entries}
+use Rattle.lf_checker.specs.View.{Entry, base_position, placed_from, base_entries}
 use Rattle.lf_env.specs.Names.{same_entry}
 use Rattle.lf_env.specs.Answer.{DistinctNames}
 use Rattle.lf_env.specs.Layer.{entries_of, AreSound}
-use Rattle.lf_env.proofs.Entries.{entries_of-append, entries_of-both, filter-append, insert_all_distinct, IsDistinct-later, IsDistinct-base, IsDistinct-filter, IsDistinct-pushed, length-base, length-filter, base_entries-append}
+use Rattle.lf_env.proofs.Entries.{entries_of-append, entries_of-both, filter-append, insert_all_distinct, IsDistinct-later, IsDistinct-base, IsDistinct-filter, IsDistinct-pushed, distinct_nil, length-base, length-filter, base_entries-append}
 
 pub first_and_rest : (ls : List (List Entry)) (first : List Entry) → 1 ≤ length ls → first ≡ get_or ls 0 first
     → entries_of ls ≡ first ++ entries_of (take (length ls - 1) (drop 1 ls))
@@ -73,6 +73,9 @@ pub base_sound : (cs : List ConstInfo) (es : List Entry) (most : ℕ) → Distin
 base_sound cs es most d is count fits =
     let long : length es ≡ length cs = ap length is ∙ length-base cs in
     record { distinct = subst (IsDistinct same_entry) (sym is) (IsDistinct-base cs d); bounded = omega arith; fits = fits }
+
+pub empty_sound : (es : List Entry) (most : ℕ) → es ≡ [] → AreSound es 0
+empty_sound es most is = record { distinct = subst (IsDistinct same_entry) (sym is) distinct_nil; bounded = let count : length es ≡ 0 = ap length is in omega arith; fits = omega arith }
 
 pub filter_sound : (p : Entry → _) (es own : List Entry) (most : ℕ) → AreSound es most → own ≡ filter p es → AreSound own most
 filter_sound p es own most s is =

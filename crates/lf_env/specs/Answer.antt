@@ -1,10 +1,12 @@
 -- What the answers of the code say.
-use Rattle.std.specs.Prelude.{◌≡◌, ◌≢◌, ℕ, Bool, false, ◌&&◌, Option, Some, None, List, [], AllPairs}
+use Rattle.std.specs.Prelude.{◌≡◌, ◌≢◌, ℕ, false, IsTrue, IfSome, IsSomeAnd, Option, Some, None, List, [], ◌∷◌, ◌++◌, All, AllPairs}
 use Rattle.lf_core.specs.Term.{Path}
+use Rattle.lf_core.specs.Suffix.{fits_kind, suffix_of}
+use Rattle.lf_core.specs.declared.suffix.Suffix.{Suffix}
 use Rattle.lf_core.specs.declared.constant.ConstInfo.{ConstInfo}
 use Rattle.lf_core.specs.declared.constant.TaskKey.TheVariants.{Body}
-use Rattle.lf_env.specs.View as view
-use Rattle.lf_env.specs.View.{KnownBody, value, opaque, unresolved, lookup_of}
+use Rattle.lf_checker.specs.View as view
+use Rattle.lf_checker.specs.View.{KnownBody, value, opaque, unresolved, lookup_of, find_entry, find_branch, has_failed, placed_of, parent_of, last_of}
 use Rattle.lf_env.specs.declared.answer.Lookup.{Lookup}
 use Rattle.lf_env.specs.declared.answer.Lookup.TheVariants.{Found, Absent, NeedBody, NeedReal}
 use Rattle.lf_env.specs.declared.answer.BodyOf.{BodyOf}
@@ -20,6 +22,12 @@ told Absent = view.absent
 told (NeedBody p) = view.need_body p
 told NeedReal = view.need_real
 
+-- The suffix fits the parent.
+abbrev pub FitsParent : Option Suffix → Option view.Entry → Type 0
+FitsParent (Some s) (Some e) = IsTrue (fits_kind s e.info.kind)
+FitsParent (Some s) None = ⊥
+FitsParent None o = ⊥
+
 -- The view knows a constant of this name.
 abbrev pub IsKnown : view.View → Path → Type 0
 IsKnown V n = (c : ConstInfo) × (lookup_of V n ≡ view.found c)
@@ -31,13 +39,24 @@ Shows Opaque opaque = Unit {0}
 Shows (AfterBody p) (unresolved (Body q)) = p ≡ q
 Shows _ _ = ⊥
 
--- A view with no branch and no kept answer.
-pub record IsPlain (V : view.View) : Type 0 where
-  pub no_branch : V.branches ≡ []
-  pub no_answer : V.answers ≡ []
-  pub for_all : V.for_base ≡ false
+-- The name is an entry of this position.
+abbrev pub HasEntryAt : view.View → Path → ℕ → Type 0
+HasEntryAt V n p = IsSomeAnd (placed_of V n) (λ place. place.0 ≡ p)
 
--- Whether the parent, if it is there, is to have a realized child with this last part.
-abbrev pub fits_parent : ℕ → List ℕ → Option view.Entry → Bool
-fits_parent position last None = false
-fits_parent position last (Some parent) = view.fits_suffix last parent.info.kind && view.stands_before position parent.position
+-- A branch can be joined with these constants: the last is its header's, whose branch is open at the position; the others are new, and no two of
+-- one name.
+pub record CanJoin (V : view.View) (p : ℕ) (cs : List ConstInfo) : Type 0 where
+  pub helpers : List ConstInfo
+  pub header : ConstInfo
+  pub are : cs ≡ helpers ++ header ∷ []
+  pub open_there : find_branch V.branches header.name ≡ Some p
+  pub fresh : All (λ c. find_entry V.entries c.name ≡ None) helpers
+  pub distinct : DistinctNames helpers
+
+-- A name that can be answered: it has no entry and no answer, and ends in a suffix that its parent's kind fits.
+pub record CanAnswer (V : view.View) (n : Path) (made : Option ConstInfo) : Type 0 where
+  pub no_entry : find_entry V.entries n ≡ None
+  pub not_realized : find_entry V.realized n ≡ None
+  pub not_failed : has_failed V.failed n ≡ false
+  pub fitting : FitsParent (suffix_of (last_of n)) (find_entry V.entries (parent_of n))
+  pub named : IfSome made (λ c. c.name ≡ n)

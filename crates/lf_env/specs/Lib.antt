@@ -1,14 +1,4 @@
-pub mod View
-pub mod Extends
-pub mod LevelTest
-pub mod Run
-pub mod Calls
-pub mod Whnf
-pub mod Infer
-pub mod Equal
-pub mod Normalize
-pub mod Checker
-pub mod Admission
 pub mod Names
 pub mod Layer
 pub mod Answer
+pub mod Few

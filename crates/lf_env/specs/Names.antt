@@ -1,33 +1,13 @@
 -- Sameness of names is an equivalence, and same names are hashed alike.
-use Rattle.std.specs.Prelude.{◌≡◌, Bool, true, ◌&&◌, [], ◌∷◌}
-use Rattle.std.proofs.Common.{refl, sym, ◌∙◌, ap}
-use Rattle.std.specs.Str.{bytes_eq}
+use Rattle.std.specs.Prelude.{◌≡◌, Bool, true}
+use Rattle.std.proofs.Common.{sym, ◌∙◌, ap}
 use Rattle.std.specs.List.{flat_map}
 use Rattle.std.specs.Hash as fed
 use Rattle.std.specs.Cmp.{IsEquivalence, on_equiv}
-use Rattle.std.specs.Cmp.Lexicographic.{pointwise, lists_equiv, nat_list_eq_equiv, bytes_decides, pointwise_decides}
+use Rattle.lf_name.proofs.Names.{path_is, path_equivalence}
 use Rattle.lf_core.specs.Term.{Path}
 use Rattle.lf_core.specs.Same.{same_path}
-use Rattle.lf_env.specs.View.{Entry}
-
-same_is_pointwise : (x y : Path) → same_path x y ≡ pointwise bytes_eq x y
-same_is_pointwise [] [] = refl
-same_is_pointwise [] (y ∷ ys) = refl
-same_is_pointwise (x ∷ xs) [] = refl
-same_is_pointwise (x ∷ xs) (y ∷ ys) = ap (λ b. bytes_eq x y && b) (same_is_pointwise xs ys)
-
--- The names that the test finds the same are equal.
-pub path_is : (x y : Path) → same_path x y ≡ true → x ≡ y
-path_is x y h = (pointwise_decides bytes_decides x y).0 (sym (same_is_pointwise x y) ∙ h)
-
-pub path_equivalence : IsEquivalence same_path
-path_equivalence =
-    let e : IsEquivalence (pointwise bytes_eq) = lists_equiv nat_list_eq_equiv in
-    record {
-      refl = λ x. same_is_pointwise x x ∙ e.refl x;
-      symm = λ x y. same_is_pointwise x y ∙ e.symm x y ∙ sym (same_is_pointwise y x);
-      congr = λ x y z h. same_is_pointwise x z ∙ e.congr x y z (sym (same_is_pointwise x y) ∙ h) ∙ sym (same_is_pointwise y z);
-    }
+use Rattle.lf_checker.specs.View.{Entry}
 
 -- Entries by their names.
 abbrev pub same_entry : Entry → Entry → Bool

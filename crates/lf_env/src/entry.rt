@@ -2,7 +2,8 @@ ghost use Rattle.std.specs.Prelude.{◌≡◌, ⊤, IfOk, fold};
 ghost use Rattle.std.specs.List.{flat_map};
 ghost use Rattle.std.specs.Hash as fed;
 ghost use Rattle.lf_core.specs.Same.{same_path};
-ghost use Rattle.lf_env.specs.Names.{path_equivalence, entry_equivalence, path_fed, path_flipped, path_congruent};
+ghost use Rattle.lf_name.proofs.Names.{path_equivalence};
+ghost use Rattle.lf_env.specs.Names.{entry_equivalence, path_fed, path_flipped, path_congruent};
 ghost use Rattle.std.specs.Cmp.{partial_equiv_from_equiv, on_equiv};
 
 use indexmap::Equivalent;
@@ -22,7 +23,7 @@ pub struct SharedEntry {
 
 impl Model for SharedEntry {
     ghost use Rattle.std.specs.Arc.{arc_value};
-    ghost use Rattle.lf_env.specs.View.{Entry};
+    ghost use Rattle.lf_checker.specs.View.{Entry};
 
     ghost Value = { Entry };
 

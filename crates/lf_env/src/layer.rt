@@ -3,7 +3,7 @@ ghost use Rattle.std.specs.List.{IsDistinct, list_any};
 ghost use Rattle.std.specs.Option.{option_copied};
 ghost use Rattle.std.specs.Arc.{arc_value};
 ghost use Rattle.indexmap.specs.IndexSet.{insert_all};
-ghost use Rattle.lf_env.specs.View.{find_entry, placed_from, stands_before as is_before};
+ghost use Rattle.lf_checker.specs.View.{find_entry, placed_from, stands_before as is_before};
 ghost use Rattle.lf_env.specs.Names.{same_entry};
 ghost use Rattle.lf_env.specs.Layer.{is_within, has_name};
 
@@ -30,7 +30,7 @@ impl Model for Layer {
     ghost use Rattle.std.specs.List.{IsDistinct};
     ghost use Rattle.std.specs.Arc.{arc_value};
     ghost use Rattle.lf_core.specs.Codes.{coded_term};
-    ghost use Rattle.lf_env.specs.View.{Entry};
+    ghost use Rattle.lf_checker.specs.View.{Entry};
     ghost use Rattle.lf_env.specs.Names.{same_entry};
     ghost use Rattle.lf_env.specs.Layer.{is_within};
 

@@ -1,10 +1,11 @@
-ghost use Rattle.std.specs.Prelude.{◌≡◌, ◌+◌, ◌≤◌, ◌++◌, ◌∷◌, [], length, filter, IfOk};
+ghost use Rattle.std.specs.Prelude.{◌≡◌, ◌+◌, ◌≤◌, ◌++◌, ◌∷◌, [], length, filter, sum, IfOk, IfSome};
 ghost use Rattle.std.specs.List.{IsDistinct};
 ghost use Rattle.std.specs.Option.{option_copied};
 ghost use Rattle.indexmap.specs.IndexSet.{insert_all};
-ghost use Rattle.lf_env.specs.View.{find_entry, placed_from, base_entries, stands_before as is_before};
+ghost use Rattle.lf_checker.specs.View.{find_entry, placed_from, base_entries, stands_before as is_before};
 ghost use Rattle.lf_env.specs.Names.{same_entry};
 ghost use Rattle.lf_env.specs.Layer.{entries_of};
+ghost use Rattle.lf_env.specs.Few.{IsLonger, IsDue};
 ghost use Rattle.lf_env.specs.Answer.{DistinctNames};
 
 use crate::entry::SharedEntry;
@@ -43,18 +44,48 @@ pub fn placed_in(layers: &[Layer], words: &[Word], start: usize) -> Option<(u32,
     }
 }
 
-/// How many of the layers stay as they are when an entry is pushed. The later ones are joined to one layer with it, so
-/// that each layer is longer than all later ones, and there are few.
-fn lasting(layers: &[Layer]) -> usize
-    ensures { result ≤ length layers.now }
+/// How many layers stay as they are when an entry is pushed, and how many entries are in those behind them, with the new one.
+#[derive(Clone, Copy, Debug)]
+struct Parting {
+    kept: usize,
+    joined: usize,
+}
+
+/// By the sizes of the layers: the later ones are joined to one layer with the new entry, so that each layer is longer than all
+/// later ones, and there are few. `None` where a usize doesn't count the entries.
+#[tactic(auto, using(crate::proofs::Few::longer_first, crate::proofs::Few::longer_later, crate::proofs::Few::due_later))]
+fn lasting(sizes: &[usize]) -> Option<Parting>
+    ensures bound { IfSome result (λ l. l.kept ≤ length sizes.now) }
+    ensures few { IfSome result (λ l. IsLonger sizes.now l.kept) }
+    ensures due { IfSome result (λ l. IsDue sizes.now l.kept) }
+    ensures joined { IfSome result (λ l. l.kept ≡ 0 → l.joined ≡ sum sizes.now + 1) }
 {
-    let mut joined = 1usize;
-    let mut kept = layers.len();
-    while kept > 0 && layers[kept - 1].size() <= joined {
-        kept -= 1;
-        joined = joined.saturating_add(layers[kept].size());
+    match sizes {
+        [] => Some(Parting { kept: 0, joined: 1 }),
+        [first, rest @ ..] => {
+            let behind = lasting(rest)?;
+            let joined = behind.joined;
+            if behind.kept > 0 {
+                let kept = behind.kept + 1;
+                return Some(Parting { kept, joined });
+            }
+            if *first > joined {
+                return Some(Parting { kept: 1, joined });
+            }
+            let joined = joined.checked_add(*first)?;
+            Some(Parting { kept: 0, joined })
+        }
     }
-    kept
+}
+
+fn sizes(alloc: Global, layers: &[Layer]) -> Result<Vec<usize>, NoMemory>
+    ensures { IfOk result (λ all. length all.items ≡ length layers.now) }
+{
+    let mut all = Vec::new(alloc);
+    for layer in layers {
+        all.push(layer.size())?;
+    }
+    Ok(all)
 }
 
 /// One layer of the entries of these layers and one more.
@@ -70,7 +101,8 @@ fn join(alloc: Global, layers: &[Layer], last: SharedEntry) -> Result<Layer, NoM
     Layer::new(alloc, table)
 }
 
-fn share(alloc: Global, layers: &[Layer]) -> Result<Vec<Layer>, NoMemory>
+/// The same layers.
+pub fn share(alloc: Global, layers: &[Layer]) -> Result<Vec<Layer>, NoMemory>
     ensures { IfOk result (λ all. all.items ≡ layers.now) }
 {
     let mut all = Vec::new(alloc);
@@ -85,7 +117,9 @@ pub fn extended(alloc: Global, layers: &[Layer], last: SharedEntry) -> Result<Ve
     requires { IsDistinct same_entry (entries_of layers.now ++ last ∷ []) }
     ensures { IfOk result (λ all. entries_of all.items ≡ entries_of layers.now ++ last ∷ []) }
 {
-    let (kept, later) = layers.split_at(lasting(layers));
+    let sizes = sizes(alloc, layers)?;
+    let parting = lasting(sizes.as_slice()).ok_or(NoMemory)?;
+    let (kept, later) = layers.split_at(parting.kept);
     let joined = join(alloc, later, last)?;
     let mut all = share(alloc, kept)?;
     all.push(joined)?;

@@ -5,11 +5,9 @@ mod answer;
 mod entry;
 mod layer;
 mod layers;
+mod listing;
 mod view;
 
 pub use answer::{BodyOf, Lookup};
 pub use layers::BASE;
 pub use view::View;
-
-#[cfg(test)]
-mod tests;

@@ -3,11 +3,11 @@ use Rattle.std.proofs.Common.{◌≡◌, ℕ, ◌-◌, Bool, true, false, nat_lt
 use Rattle.lf_core.specs.Term.{Path, Term, pi}
 use Rattle.lf_core.specs.declared.constant.ConstInfo.{ConstInfo}
 use Rattle.lf_core.specs.declared.constant.TaskKey.{TaskKey}
-use Rattle.lf_env.specs.View.{View, Lookup, found, absent, need_body, need_real, lookup_of, KnownBody, value, opaque, unresolved, found_body, body_of}
-use Rattle.lf_env.specs.Extends.{shape_of, SameFound, SameLookup, SameBody, Extends}
-use Rattle.lf_env.specs.Run.{Answer, done, refused, out, need, Run, go_on, choose, spend, caught, named_in}
-use Rattle.lf_env.specs.Calls.{Seen, known, unknown, missing, seen_as, see}
-use Rattle.lf_env.specs.Infer.{on_pi}
+use Rattle.lf_checker.specs.View.{View, Lookup, found, absent, need_body, need_real, lookup_of, KnownBody, value, opaque, unresolved, found_body, body_of}
+use Rattle.lf_checker.specs.Extends.{shape_of, SameFound, SameLookup, SameBody, Tells}
+use Rattle.lf_checker.specs.Run.{Answer, done, refused, out, need, Run, go_on, choose, spend, caught, named_in}
+use Rattle.lf_checker.specs.Calls.{Seen, known, unknown, missing, seen_as, see}
+use Rattle.lf_checker.specs.Infer.{on_pi}
 use Rattle.lf_extension_laws.specs.Extension.{Kept}
 
 pub kept_self : {A : Type 0} (o : Answer A) → Kept o o
@@ -41,7 +41,8 @@ kept_spend n m k u h = at (nat_lt u n)
     at true = refl
     at false = h (u - n)
 
-pub kept_on_pi : {A : Type 0} (F P : Term) (k l : Term → Term → Run A) (u : ℕ) → ((X B : Term) → Kept (k X B u) (l X B u)) → Kept (on_pi F P k u) (on_pi F P l u)
+pub kept_on_pi : {A : Type 0} (F P : Term) (k l : Term → Term → Run A) (u : ℕ) → ((X B : Term) → Kept (k X B u) (l X B u))
+    → Kept (on_pi F P k u) (on_pi F P l u)
 kept_on_pi F (pi x X B) k l u h = h X B
 kept_on_pi F _ k l u h = refl
 
@@ -67,28 +68,30 @@ same_seen n absent m h = ap (seen_as n) h
 same_seen n (need_body p) m h = tt
 same_seen n need_real m h = tt
 
-pub see_kept : (U V : View) → Extends V U → (n : Path) → SameSeen (see U n) (see V n)
+pub see_kept : (U V : View) → Tells V U → (n : Path) → SameSeen (see U n) (see V n)
 see_kept U V x n = same_seen n (lookup_of U n) (lookup_of V n) (x.lookups n)
 
 absent_body : (U V : View) (n : Path) (m : Lookup) → absent ≡ m → SameBody opaque (found_body V n m)
 absent_body U V n m h = subst (λ l. SameBody opaque (found_body V n l)) h refl
 
-body_by : (U V : View) → Extends V U → (n : Path) (l : Lookup) → lookup_of U n ≡ l → SameBody (found_body U n l) (body_of V n)
+body_by : (U V : View) → Tells V U → (n : Path) (l : Lookup) → lookup_of U n ≡ l → SameBody (found_body U n l) (body_of V n)
 body_by U V x n (found c) e = subst (λ l. SameBody (found_body U n l) (body_of V n)) e (x.bodies n c e)
 body_by U V x n absent e = absent_body U V n (lookup_of V n) (subst (λ l. SameLookup l (lookup_of V n)) e (x.lookups n))
 body_by U V x n (need_body p) e = tt
 body_by U V x n need_real e = tt
 
-pub body_kept : (U V : View) → Extends V U → (n : Path) → SameBody (body_of U n) (body_of V n)
+pub body_kept : (U V : View) → Tells V U → (n : Path) → SameBody (body_of U n) (body_of V n)
 body_kept U V x n = body_by U V x n (lookup_of U n) refl
 
 -- By what is seen, where the first run has nothing but the need.
-pub kept_seen : {A : Type 0} (s t : Seen) (f g : Seen → Answer A) → ((k : TaskKey) → f (missing k) ≡ need k) → ((r : Seen) → Kept (f r) (g r)) → SameSeen s t → Kept (f s) (g t)
+pub kept_seen : {A : Type 0} (s t : Seen) (f g : Seen → Answer A) → ((k : TaskKey) → f (missing k) ≡ need k) → ((r : Seen) → Kept (f r) (g r)) → SameSeen s t
+    → Kept (f s) (g t)
 kept_seen (known c) t f g w h e = subst (λ r. Kept (f (known c)) (g r)) e (h (known c))
 kept_seen unknown t f g w h e = subst (λ r. Kept (f unknown) (g r)) e (h unknown)
 kept_seen (missing k) t f g w h e = subst (λ r. Kept r (g t)) (sym (w k)) tt
 
-pub kept_body : {A : Type 0} (a b : KnownBody) (f g : KnownBody → Answer A) → ((k : TaskKey) → f (unresolved k) ≡ need k) → ((r : KnownBody) → Kept (f r) (g r)) → SameBody a b → Kept (f a) (g b)
+pub kept_body : {A : Type 0} (a b : KnownBody) (f g : KnownBody → Answer A) → ((k : TaskKey) → f (unresolved k) ≡ need k) → ((r : KnownBody) → Kept (f r) (g r))
+    → SameBody a b → Kept (f a) (g b)
 kept_body (value v n) b f g w h e = subst (λ r. Kept (f (value v n)) (g r)) e (h (value v n))
 kept_body opaque b f g w h e = subst (λ r. Kept (f opaque) (g r)) e (h opaque)
 kept_body (unresolved k) b f g w h e = subst (λ r. Kept r (g b)) (sym (w k)) tt

@@ -1,11 +1,11 @@
 -- Only inference refuses.
 use Rattle.std.specs.Prelude.{ℕ, Bool}
 use Rattle.lf_core.specs.Term.{Term}
-use Rattle.lf_core.specs.Environment.{Context}
-use Rattle.lf_env.specs.View.{View}
-use Rattle.lf_env.specs.Run.{Answer, refused}
-use Rattle.lf_env.specs.Calls.{Calls}
-use Rattle.lf_env.specs.Checker.{calls}
+use Rattle.lf_rules.specs.Environment.{Context}
+use Rattle.lf_checker.specs.View.{View}
+use Rattle.lf_checker.specs.Run.{Answer, refused}
+use Rattle.lf_checker.specs.Calls.{Calls}
+use Rattle.lf_checker.specs.Checker.{calls}
 
 abbrev pub IsNoRefusal : {A : Type 0} → Answer A → Type 0
 IsNoRefusal (refused e u) = ⊥

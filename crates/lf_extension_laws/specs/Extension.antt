@@ -1,15 +1,15 @@
 -- The extension law: a view that tells more gives the same answers, units left included.
 use Rattle.std.specs.Prelude.{◌≡◌, ℕ, Bool}
 use Rattle.lf_core.specs.Term.{Path, Term}
-use Rattle.lf_core.specs.Environment.{Context}
+use Rattle.lf_rules.specs.Environment.{Context}
 use Rattle.lf_core.specs.declared.constant.ConstInfo.{ConstInfo}
 use Rattle.lf_core.specs.declared.constant.IndDecl.{IndDecl}
-use Rattle.lf_env.specs.View.{View}
-use Rattle.lf_env.specs.Extends.{Extends}
-use Rattle.lf_env.specs.Run.{Answer, need}
-use Rattle.lf_env.specs.Calls.{Mode, Calls}
-use Rattle.lf_env.specs.Checker.{calls, add_header, add_decl}
-use Rattle.lf_env.specs.Admission.{add_inductive}
+use Rattle.lf_checker.specs.View.{View}
+use Rattle.lf_checker.specs.Extends.{Tells}
+use Rattle.lf_checker.specs.Run.{Answer, need}
+use Rattle.lf_checker.specs.Calls.{Mode, Calls}
+use Rattle.lf_checker.specs.Checker.{calls, add_header, add_decl}
+use Rattle.lf_checker.specs.Admission.{add_inductive}
 
 -- An answer that isn't a need is the other answer.
 abbrev pub Kept : {A : Type 0} → Answer A → Answer A → Type 0
@@ -29,4 +29,4 @@ pub record AgreeOn (U V : View) (depth : ℕ) : Type 0 where
   pub add_inductive : (d : IndDecl) (u : ℕ) → Kept (add_inductive U depth d u) (add_inductive V depth d u)
 
 abbrev pub ExtensionLaw : Type 0
-ExtensionLaw = (U V : View) → Extends V U → (depth : ℕ) → AgreeOn U V depth
+ExtensionLaw = (U V : View) → Tells V U → (depth : ℕ) → AgreeOn U V depth

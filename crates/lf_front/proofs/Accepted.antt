@@ -1,5 +1,34 @@
 -- What a text declares is derived.
-use Rattle.std.proofs.Common.{◌≡◌, ℕ, zero, suc, ◌+◌, ◌≤◌, ◌<◌, Bool, true, false, Option, Some, None, List, [], ◌∷◌, ◌++◌, length, refl, sym, subst, ap, ◌∙◌, arith, append_assoc, append-nil, length-append, Ok}
+use Rattle.std.proofs.Common.{
+  ◌≡◌,
+  ℕ,
+  zero,
+  suc,
+  ◌+◌,
+  ◌≤◌,
+  ◌<◌,
+  Bool,
+  true,
+  false,
+  Option,
+  Some,
+  None,
+  List,
+  [],
+  ◌∷◌,
+  ◌++◌,
+  length,
+  refl,
+  sym,
+  subst,
+  ap,
+  ◌∙◌,
+  arith,
+  append_assoc,
+  append-nil,
+  length-append,
+  Ok,
+}
 use Rattle.std.specs.Prelude.{Contains, ◌||◌, unwrap_or, slice_index_or}
 use Rattle.std.proofs.lemmas.Slice.Eq.{bytes_eq-Decides}
 use Rattle.std.proofs.Math.Bool.{or-true}
@@ -7,11 +36,12 @@ use Rattle.std.specs.List.{list_any}
 use Rattle.lf_core.specs.Term.{Path, Universe, Term, bound, sort, const, pi, level_zero, level_succ}
 use Rattle.lf_core.specs.Same.{same_path}
 use Rattle.lf_core.specs.Scope.{Scoped}
-use Rattle.lf_core.specs.Environment.{Environment, Declared, Fresh, NamesDeclared, ParametersBelow, LevelsBelow}
-use Rattle.lf_core.specs.Judgment.{HasType}
-use Rattle.lf_core.specs.Derived.{Derived, with_axiom}
+use Rattle.lf_rules.specs.Environment.{Environment, Declared, Fresh, NamesDeclared, ParametersBelow, LevelsBelow}
+use Rattle.lf_rules.specs.Judgment.{HasType}
+use Rattle.lf_rules.specs.Derived.{Derived, with_axiom}
 use Rattle.lf_core.specs.declared.constant.ConstInfo.{ConstInfo}
-use Rattle.lf_check.proofs.Sound.{typed_by, same_path_is}
+use Rattle.lf_front.proofs.Sound.{typed_by}
+use Rattle.lf_name.proofs.Names.{path_is}
 use Rattle.lf_front.specs.declared.token.Token.{Token}
 use Rattle.lf_front.specs.declared.names.Local.{Local}
 use Rattle.lf_front.specs.declared.names.Local.TheVariants.{Named, Unnamed}
@@ -41,8 +71,9 @@ innermost_below x (Unnamed ∷ ys) = weaker (innermost x ys) (length ys) (innerm
 further : (n : Path) (d : ConstInfo) (E : Environment) → Declared E n → Declared (d ∷ E) n
 further n d E h = (h.0, (suc h.1.0, omega (arith, h.1.1), h.1.2), h.2)
 
-declared_step : (E : Environment) (n : Path) (d : ConstInfo) (b : Bool) → same_path n d.name ≡ b → (is_declared E n ≡ true → Declared E n) → b || is_declared E n ≡ true → Declared (d ∷ E) n
-declared_step E n d true e ih h = (d, (0, omega arith, refl), sym (same_path_is n d.name e))
+declared_step : (E : Environment) (n : Path) (d : ConstInfo) (b : Bool) → same_path n d.name ≡ b → (is_declared E n ≡ true → Declared E n)
+    → b || is_declared E n ≡ true → Declared (d ∷ E) n
+declared_step E n d true e ih h = (d, (0, omega arith, refl), sym (path_is n d.name e))
 declared_step E n d false e ih h = further n d E (ih h)
 
 declared_by : (E : Environment) (n : Path) → is_declared E n ≡ true → Declared E n
@@ -55,7 +86,8 @@ pub record IsPlain (E : Environment) (L : List Local) (t : Term) : Type 0 where
   pub named : NamesDeclared E t
   pub levels : LevelsBelow 0 t
 
-name_plain : (E : Environment) (L : List Local) (x : Path) (t : Term) (o : Option ℕ) (b : Bool) → IfBelow (length L) o → is_declared E x ≡ b → or_constant o b x ≡ Some t → IsPlain E L t
+name_plain : (E : Environment) (L : List Local) (x : Path) (t : Term) (o : Option ℕ) (b : Bool) → IfBelow (length L) o → is_declared E x ≡ b
+    → or_constant o b x ≡ Some t → IsPlain E L t
 name_plain E L x t (Some i) b l e is = subst (IsPlain E L) (ap (λ (o : Option Term). unwrap_or o t) is) (record { scoped = l; named = tt; levels = tt })
 name_plain E L x t None true l e is =
     subst (IsPlain E L) (ap (λ (o : Option Term). unwrap_or o t) is) (record { scoped = tt; named = declared_by E x e; levels = tt })
@@ -86,11 +118,21 @@ mutual
   spelled_plain {E} {L} (grammar.arrow {B = B} a s) =
       let left = atom_plain a in
       let right = spelled_plain s in
-      record { scoped = (left.scoped, subst (λ (n : ℕ). Scoped n 0 B) (one_longer L Unnamed) right.scoped); named = (left.named, right.named); levels = (left.levels, right.levels) }
+      record {
+        scoped = (left.scoped, subst (λ (n : ℕ). Scoped n 0 B) (one_longer L Unnamed) right.scoped);
+        named = (left.named, right.named);
+        levels =
+            (left.levels, right.levels);
+      }
   spelled_plain {E} {L} (grammar.for_all {B = B} x s u) =
       let left = spelled_plain s in
       let right = spelled_plain u in
-      record { scoped = (left.scoped, subst (λ (n : ℕ). Scoped n 0 B) (one_longer L (Named (x ∷ []))) right.scoped); named = (left.named, right.named); levels = (left.levels, right.levels) }
+      record {
+        scoped = (left.scoped, subst (λ (n : ℕ). Scoped n 0 B) (one_longer L (Named (x ∷ []))) right.scoped);
+        named = (left.named, right.named);
+        levels =
+            (left.levels, right.levels);
+      }
 
 path_same : (x : Path) → same_path x x ≡ true
 path_same [] = refl
@@ -113,7 +155,12 @@ one_derived E ts c rest derived one =
     let typed : HasType E [] one.type (sort one.level) = typed_by E [] [] one.type (sort one.level) refl one.typed plain.scoped in
     subst (λ (d : ConstInfo). Derived (E ++ d ∷ [])) (sym one.constant)
     (with_axiom (axiom_of one.name one.type) derived
-    (record { fresh = fresh_by E one.name one.new; plain = refl; level = one.level; type = record { typed = typed; named = plain.named; levels = plain.levels } }) refl refl)
+    (record {
+      fresh = fresh_by E one.name one.new;
+      plain = refl;
+      level = one.level;
+      type = record { typed = typed; named = plain.named; levels = plain.levels };
+    }) refl refl)
 
 pub declares_derived : (E : Environment) (ts : List Token) (cs : Environment) → Derived E → Declares E ts cs → Derived (E ++ cs)
 declares_derived E ts [] derived d = rw (append-nil E) derived

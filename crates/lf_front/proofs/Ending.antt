@@ -1,11 +1,42 @@
 -- How a run ends.
-use Rattle.std.proofs.Common.{◌≡◌, ℕ, ◌≤◌, ◌<◌, ◌++◌, Bool, true, false, List, [], ◌∷◌, Option, Some, None, Ok, Err, Result, IfSome, option_map, length, take, drop, refl, sym, subst, ap, ◌∙◌, arith, append-nil, codes}
+use Rattle.std.proofs.Common.{
+  ◌≡◌,
+  ℕ,
+  ◌≤◌,
+  ◌<◌,
+  ◌++◌,
+  Bool,
+  true,
+  false,
+  List,
+  [],
+  ◌∷◌,
+  Option,
+  Some,
+  None,
+  Ok,
+  Err,
+  Result,
+  IfSome,
+  option_map,
+  length,
+  take,
+  drop,
+  refl,
+  sym,
+  subst,
+  ap,
+  ◌∙◌,
+  arith,
+  append-nil,
+  codes,
+}
 use Rattle.std.specs.Prelude.{unwrap_or}
 use Rattle.std.specs.Str.{bytes_eq}
 use Rattle.std.proofs.lemmas.Slice.Eq.{bytes_eq-Decides}
 use Rattle.lf_base.specs.Outside.{Begins, Holds, IsAtEnd, Moves}
 use Rattle.lf_base.proofs.Pieces.{holds_none}
-use Rattle.lf_core.specs.Environment.{Environment}
+use Rattle.lf_rules.specs.Environment.{Environment}
 use Rattle.lf_front.specs.declared.token.Token.{Token}
 use Rattle.lf_front.specs.declared.status.Status.{Status}
 use Rattle.lf_front.specs.declared.status.Status.TheVariants as status
@@ -15,7 +46,7 @@ use Rattle.lf_front.specs.Report.{report_of}
 use Rattle.lf_front.specs.Meaning.{Means, AsksForCheck, bad_words, not_built}
 use Rattle.lf_front.proofs.Declaring.{declares_one}
 use Rattle.lf_front.proofs.Accepted.{declares_derived}
-use Rattle.lf_core.specs.Derived.{Derived, empty}
+use Rattle.lf_rules.specs.Derived.{Derived, empty}
 use Rattle.lf_front.specs.Reader.{ReadsAll, Reports, Refuses, asks}
 use Rattle.lf_front.specs.declared.names.Refusal.{Refusal}
 use Rattle.lf_front.specs.declared.names.Refusal.TheVariants.{NotBuilt, NoMemory}
@@ -77,12 +108,22 @@ means_one words bytes t u r status.ReadFault a b = absurd b
 means_one words bytes t u r status.WriteFault a b = absurd b
 means_one words bytes t u r status.NoMemory a b = absurd b
 
+-- And it isn't nothing.
+pub means_some : (words : List (List ℕ)) (bytes : List ℕ) → ((text : List ℕ) (s : Status) → Means words bytes text s → ⊥) → ⊥
+means_some words bytes none = at (asks words) refl
+  where
+    at : (b : Bool) → asks words ≡ b → ⊥
+    at true e = none not_built status.NotBuilt (asks_yes words e, (λ E a. none (report_of E) status.Clean (asks_yes words e, (E, a, refl))), refl)
+    at false e = none bad_words status.BadWords (asks_no words e, refl)
+
 -- What begins the text that is meant begins each text that is meant.
-begins_each : (words : List (List ℕ)) (bytes text part : List ℕ) (answer : Status) → Means words bytes text answer → Begins part text → (t : List ℕ) (s : Status) → Means words bytes t s → Begins part t
+begins_each : (words : List (List ℕ)) (bytes text part : List ℕ) (answer : Status) → Means words bytes text answer → Begins part text
+    → (t : List ℕ) (s : Status) → Means words bytes t s → Begins part t
 begins_each words bytes text part answer means begins t s other = subst (Begins part) ((means_one words bytes text t answer s means other).0) begins
 
 -- A beginning of what is meant was written.
-pub part_written : (words : List (List ℕ)) (left held held' : Option (List ℕ)) (text : List ℕ) (answer : Status) → IfSome left (λ bytes. Means words bytes text answer)
+pub part_written : (words : List (List ℕ)) (left held held' : Option (List ℕ)) (text : List ℕ) (answer : Status)
+    → IfSome left (λ bytes. Means words bytes text answer)
     → (part : List ℕ) × Begins part text × Holds held held' part
     → IfSome left (λ bytes. (part : List ℕ) × Holds held held' part × ((t : List ℕ) (s : Status) → Means words bytes t s → Begins part t))
 part_written words None held held' text answer means w = tt
@@ -94,7 +135,8 @@ pub none_written : (words : List (List ℕ)) (left held : Option (List ℕ))
 none_written words None held = tt
 none_written words (Some bytes) held = ([], holds_none held, λ t s means. (t, refl))
 
-pub all_written : (words : List (List ℕ)) (left held held' : Option (List ℕ)) (text : List ℕ) (answer : Status) → IfSome left (λ bytes. Means words bytes text answer) → Holds held held' text
+pub all_written : (words : List (List ℕ)) (left held held' : Option (List ℕ)) (text : List ℕ) (answer : Status)
+    → IfSome left (λ bytes. Means words bytes text answer) → Holds held held' text
     → IfSome left (λ bytes. (t : List ℕ) × Means words bytes t answer × Holds held held' t)
 all_written words None held held' text answer means h = tt
 all_written words (Some bytes) held held' text answer means h = (text, means, h)
@@ -111,7 +153,8 @@ meant_of None left' text P moves end p = tt
 meant_of (Some bytes) left' text P moves end p = subst P (sym (read_whole (Some bytes) left' text moves end)) p
 
 -- A text that is too long isn't built.
-pub long_meant : (words : List (List ℕ)) (left : Option (List ℕ)) → asks words ≡ true → IfSome left (λ bytes. 1048576 < length bytes) → IfSome left (λ bytes. Means words bytes not_built status.NotBuilt)
+pub long_meant : (words : List (List ℕ)) (left : Option (List ℕ)) → asks words ≡ true → IfSome left (λ bytes. 1048576 < length bytes)
+    → IfSome left (λ bytes. Means words bytes not_built status.NotBuilt)
 long_meant words None asked long = tt
 long_meant words (Some bytes) asked long = (asks_yes words asked, (λ E accepts. too_long (length bytes) long accepts.short), refl)
 
@@ -121,20 +164,25 @@ bad_meant words (Some bytes) unasked = (asks_no words unasked, refl)
 
 -- Where its tokens declare nothing, a text isn't accepted.
 pub not_accepted : (bytes : List ℕ) (ts us : List Token) (r : Refusal) → Tokens bytes ts → us ≡ ts → ReadsAll us (Err r) → Refuses bytes r
-not_accepted bytes ts us NotBuilt read same none = λ E accepts. none E (subst (λ (x : List Token). Declares [] x E) (tokens_one bytes accepts.tokens ts accepts.read read ∙ sym same) accepts.declares)
+not_accepted bytes ts us NotBuilt read same none = λ E accepts. none E
+    (subst (λ (x : List Token). Declares [] x E) (tokens_one bytes accepts.tokens ts accepts.read read ∙ sym same) accepts.declares)
 not_accepted bytes ts us NoMemory read same none = tt
 
 pub accepted_derived : (bytes : List ℕ) (E : Environment) → Accepts bytes E → Derived E
 accepted_derived bytes E accepts = declares_derived [] accepts.tokens E empty accepts.declares
 
 -- What is meant, over what was read.
-pub report_meant : (words : List (List ℕ)) (left left' : Option (List ℕ)) (text report : List ℕ) → asks words ≡ true → Moves left left' text → IsAtEnd left' → Reports text report
+pub report_meant : (words : List (List ℕ)) (left left' : Option (List ℕ)) (text report : List ℕ) → asks words ≡ true → Moves left left' text → IsAtEnd left'
+    → Reports text report
     → IfSome left (λ bytes. Means words bytes report status.Clean)
-report_meant words left left' text report asked moves end r = meant_of left left' text (λ bytes. Means words bytes report status.Clean) moves end (asks_yes words asked, r)
+report_meant words left left' text report asked moves end r = meant_of left left' text (λ bytes. Means words bytes report status.Clean) moves end
+    (asks_yes words asked, r)
 
-pub refusal_meant : (words : List (List ℕ)) (left left' : Option (List ℕ)) (text : List ℕ) → asks words ≡ true → Moves left left' text → IsAtEnd left' → Refuses text NotBuilt
+pub refusal_meant : (words : List (List ℕ)) (left left' : Option (List ℕ)) (text : List ℕ) → asks words ≡ true → Moves left left' text → IsAtEnd left'
+    → Refuses text NotBuilt
     → IfSome left (λ bytes. Means words bytes not_built status.NotBuilt)
-refusal_meant words left left' text asked moves end none = meant_of left left' text (λ bytes. Means words bytes not_built status.NotBuilt) moves end (asks_yes words asked, none, refl)
+refusal_meant words left left' text asked moves end none = meant_of left left' text (λ bytes. Means words bytes not_built status.NotBuilt) moves end
+    (asks_yes words asked, none, refl)
 
 pub refused_text : (text read : List ℕ) (r : Refusal) → r ≡ NotBuilt → read ≡ text → Refuses read r → Refuses text NotBuilt
 refused_text text read r is same none = subst (λ (b : List ℕ). Refuses b NotBuilt) same (subst (Refuses read) is none)

@@ -1,5 +1,31 @@
 -- Identifiers are ASCII, and one more token before the others.
-use Rattle.std.proofs.Common.{◌≡◌, ℕ, ◌+◌, ◌≤◌, ◌<◌, List, [], ◌∷◌, ◌++◌, length, get_or, take, drop, Bool, true, false, ◌||◌, ◌&&◌, ◌==◌, nat_lt, refl, subst, arith, append-nil, append_assoc}
+use Rattle.std.proofs.Common.{
+  ◌≡◌,
+  ℕ,
+  ◌+◌,
+  ◌≤◌,
+  ◌<◌,
+  List,
+  [],
+  ◌∷◌,
+  ◌++◌,
+  length,
+  get_or,
+  take,
+  drop,
+  Bool,
+  true,
+  false,
+  ◌||◌,
+  ◌&&◌,
+  ◌==◌,
+  nat_lt,
+  refl,
+  subst,
+  arith,
+  append-nil,
+  append_assoc,
+}
 use Rattle.std.specs.List.{list_all}
 use Rattle.std.specs.Char.{is_ascii_alphabetic, is_ascii_digit}
 use Rattle.std.proofs.lemmas.Bool.Decides.{nat_tests}
@@ -29,7 +55,8 @@ over_ascii c cs e = grind (arith, nat_tests)
 tail_ascii : (cs : List ℕ) → is_tail cs ≡ true → list_all is_ascii cs ≡ true
 tail_ascii [] e = refl
 tail_ascii (c ∷ cs) e =
-    and_both (is_ascii c) (list_all is_ascii cs) (over_ascii c cs (and_left (goes_over c cs) (is_tail cs) e)) (tail_ascii cs (and_right (goes_over c cs) (is_tail cs) e))
+    and_both (is_ascii c) (list_all is_ascii cs) (over_ascii c cs (and_left (goes_over c cs) (is_tail cs) e))
+    (tail_ascii cs (and_right (goes_over c cs) (is_tail cs) e))
 
 pub word_is_ascii : (cs : List ℕ) → is_lexeme cs ≡ true → starts (get_or cs 0 0) ≡ true → list_all is_ascii cs ≡ true
 word_is_ascii [] e s = refl

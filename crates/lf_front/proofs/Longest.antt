@@ -1,5 +1,42 @@
 -- How far the scanner goes is the longest lexeme.
-use Rattle.std.proofs.Common.{◌≡◌, ℕ, zero, suc, ◌+◌, ◌≤◌, ◌<◌, List, [], ◌∷◌, length, take, drop, get_or, Bool, true, false, cond, ◌||◌, ◌&&◌, ◌==◌, refl, sym, ap, ◌∙◌, arith, min, drop-cons, add-one, one-add, subst, ⊎_elim, ◌⊎◌, inl, inr, codes}
+use Rattle.std.proofs.Common.{
+  ◌≡◌,
+  ℕ,
+  zero,
+  suc,
+  ◌+◌,
+  ◌≤◌,
+  ◌<◌,
+  List,
+  [],
+  ◌∷◌,
+  length,
+  take,
+  drop,
+  get_or,
+  Bool,
+  true,
+  false,
+  cond,
+  ◌||◌,
+  ◌&&◌,
+  ◌==◌,
+  refl,
+  sym,
+  ap,
+  ◌∙◌,
+  arith,
+  min,
+  drop-cons,
+  add-one,
+  one-add,
+  subst,
+  ⊎_elim,
+  ◌⊎◌,
+  inl,
+  inr,
+  codes,
+}
 use Rattle.std.specs.List.{list_all, prefix_len}
 use Rattle.std.specs.Str.{bytes_eq}
 use Rattle.std.proofs.lemmas.List.{length-take, length-take-le}
@@ -133,7 +170,8 @@ identifier_longest c cs e = record {
   longest = identifier_bound c cs e;
 }
 
-number_bound : (c : ℕ) (cs : List ℕ) → starts c ≡ false → is_digit c ≡ true → (m : ℕ) → m ≤ suc (length cs) → is_lexeme (take m (c ∷ cs)) ≡ true → m ≤ prefix_len goes_on cs + 1
+number_bound : (c : ℕ) (cs : List ℕ) → starts c ≡ false → is_digit c ≡ true → (m : ℕ) → m ≤ suc (length cs) → is_lexeme (take m (c ∷ cs)) ≡ true
+    → m ≤ prefix_len goes_on cs + 1
 number_bound c cs e d zero l p = omega arith
 number_bound c cs e d (suc m) l p = let p' = rw (e, d) at p in let w : m ≤ prefix_len goes_on cs = prefix_longest goes_on cs m (omega arith) p' in omega arith
 
@@ -151,12 +189,14 @@ same_length m cs symbol l e = sym (length-take-le m cs l) ∙ ap length (of_byte
 three_when : (cs : List ℕ) → bytes_eq (take 3 cs) arrow || bytes_eq (take 3 cs) for_all ≡ true → symbol_len cs ≡ 3
 three_when cs e = rw e refl
 
-two_at_least : (cs : List ℕ) (b d : Bool) → bytes_eq (take 3 cs) arrow || bytes_eq (take 3 cs) for_all ≡ b → bytes_eq (take 2 cs) (codes "->") ≡ d → d ≡ true → 2 ≤ symbol_len cs
+two_at_least : (cs : List ℕ) (b d : Bool) → bytes_eq (take 3 cs) arrow || bytes_eq (take 3 cs) for_all ≡ b → bytes_eq (take 2 cs) (codes "->") ≡ d → d ≡ true
+    → 2 ≤ symbol_len cs
 two_at_least cs true d e f g = rw e (omega arith)
 two_at_least cs false true e f g = rw (e, f) (omega arith)
 two_at_least cs false false e f g = cc
 
-one_at_least : (cs : List ℕ) (b d : Bool) → bytes_eq (take 3 cs) arrow || bytes_eq (take 3 cs) for_all ≡ b → bytes_eq (take 2 cs) (codes "->") ≡ d → 1 ≤ symbol_len cs
+one_at_least : (cs : List ℕ) (b d : Bool) → bytes_eq (take 3 cs) arrow || bytes_eq (take 3 cs) for_all ≡ b → bytes_eq (take 2 cs) (codes "->") ≡ d
+    → 1 ≤ symbol_len cs
 one_at_least cs true d e f = rw e (omega arith)
 one_at_least cs false true e f = rw (e, f) (omega arith)
 one_at_least cs false false e f = rw (e, f) (omega arith)
@@ -190,10 +230,13 @@ pass_at_one m cs l one =
     let is : length (take m cs) ≡ 1 = length-take-le m cs l ∙ one in or_left (length (take m cs) == 1) _ (eq-eqb (length (take m cs)) 1 is)
 
 -- The front of the length that the scanner takes is a symbol, or one byte.
-symbol_passes : (cs : List ℕ) → 1 ≤ length cs → (b d : Bool) → bytes_eq (take 3 cs) arrow || bytes_eq (take 3 cs) for_all ≡ b → bytes_eq (take 2 cs) (codes "->") ≡ d
+symbol_passes : (cs : List ℕ) → 1 ≤ length cs → (b d : Bool) → bytes_eq (take 3 cs) arrow || bytes_eq (take 3 cs) for_all ≡ b
+    → bytes_eq (take 2 cs) (codes "->") ≡ d
     → is_symbol (take (symbol_len cs) cs) ≡ true
-symbol_passes cs l true d e f = rw e (or_right (length (take 3 cs) == 1) _ (long_passes (bytes_eq (take 3 cs) arrow) (bytes_eq (take 3 cs) for_all) (bytes_eq (take 3 cs) (codes "->")) e))
-symbol_passes cs l false true e f = rw (e, f) (or_right (length (take 2 cs) == 1) _ (or_right (bytes_eq (take 2 cs) arrow) _ (or_right (bytes_eq (take 2 cs) for_all) _ f)))
+symbol_passes cs l true d e f = rw e (or_right (length (take 3 cs) == 1) _
+    (long_passes (bytes_eq (take 3 cs) arrow) (bytes_eq (take 3 cs) for_all) (bytes_eq (take 3 cs) (codes "->")) e))
+symbol_passes cs l false true e f = rw (e, f)
+    (or_right (length (take 2 cs) == 1) _ (or_right (bytes_eq (take 2 cs) arrow) _ (or_right (bytes_eq (take 2 cs) for_all) _ f)))
 symbol_passes cs l false false e f = rw (e, f) (pass_at_one 1 cs l refl)
 
 within_when : (n : ℕ) (cs symbol : List ℕ) → length symbol ≡ n → bytes_eq (take n cs) symbol ≡ true → n ≤ length cs
@@ -202,19 +245,23 @@ within_when n cs symbol long e =
     let cut : length (take n cs) ≡ min n (length cs) = length-take n cs in omega arith
 
 -- And it lies within the bytes.
-symbol_within : (cs : List ℕ) → 1 ≤ length cs → (b d : Bool) → bytes_eq (take 3 cs) arrow || bytes_eq (take 3 cs) for_all ≡ b → bytes_eq (take 2 cs) (codes "->") ≡ d
+symbol_within : (cs : List ℕ) → 1 ≤ length cs → (b d : Bool) → bytes_eq (take 3 cs) arrow || bytes_eq (take 3 cs) for_all ≡ b
+    → bytes_eq (take 2 cs) (codes "->") ≡ d
     → symbol_len cs ≤ length cs
 symbol_within cs l true d e f =
-    let long : 3 ≤ length cs = ⊎_elim (within_when 3 cs arrow refl) (within_when 3 cs for_all refl) (or_cases (bytes_eq (take 3 cs) arrow) (bytes_eq (take 3 cs) for_all) e) in
+    let long : 3 ≤ length cs = ⊎_elim (within_when 3 cs arrow refl) (within_when 3 cs for_all refl)
+    (or_cases (bytes_eq (take 3 cs) arrow) (bytes_eq (take 3 cs) for_all) e) in
     rw e long
 symbol_within cs l false true e f = let long : 2 ≤ length cs = within_when 2 cs (codes "->") refl f in rw (e, f) long
 symbol_within cs l false false e f = rw (e, f) l
 
-symbol_lexeme : (c : ℕ) (cs : List ℕ) → starts c ≡ false → is_digit c ≡ false → (m : ℕ) → is_lexeme (take m (c ∷ cs)) ≡ true → is_symbol (take m (c ∷ cs)) ≡ true
+symbol_lexeme : (c : ℕ) (cs : List ℕ) → starts c ≡ false → is_digit c ≡ false → (m : ℕ) → is_lexeme (take m (c ∷ cs)) ≡ true
+    → is_symbol (take m (c ∷ cs)) ≡ true
 symbol_lexeme c cs s d zero p = cc
 symbol_lexeme c cs s d (suc m) p = let p' = rw (s, d) at p in p'
 
-back_to_lexeme : (c : ℕ) (cs : List ℕ) → starts c ≡ false → is_digit c ≡ false → (m : ℕ) → 1 ≤ m → is_symbol (take m (c ∷ cs)) ≡ true → is_lexeme (take m (c ∷ cs)) ≡ true
+back_to_lexeme : (c : ℕ) (cs : List ℕ) → starts c ≡ false → is_digit c ≡ false → (m : ℕ) → 1 ≤ m → is_symbol (take m (c ∷ cs)) ≡ true
+    → is_lexeme (take m (c ∷ cs)) ≡ true
 back_to_lexeme c cs s d zero l p = absurd (not_below l)
 back_to_lexeme c cs s d (suc m) l p = rw (s, d) p
 
@@ -230,10 +277,12 @@ pub identifier_front : (cs : List ℕ) (n : ℕ) → 0 < length cs → starts (g
 identifier_front [] n l s e = absurd (not_below l)
 identifier_front (c ∷ cs) n l s e = rw e (identifier_longest c cs s)
 
-pub number_front : (cs : List ℕ) (n : ℕ) → 0 < length cs → starts (get_or cs 0 0) ≡ false → is_digit (get_or cs 0 0) ≡ true → n ≡ prefix_len goes_on (drop 1 cs) → IsLongest is_lexeme cs (n + 1)
+pub number_front : (cs : List ℕ) (n : ℕ) → 0 < length cs → starts (get_or cs 0 0) ≡ false → is_digit (get_or cs 0 0) ≡ true → n ≡ prefix_len goes_on (drop 1 cs)
+    → IsLongest is_lexeme cs (n + 1)
 number_front [] n l s d e = absurd (not_below l)
 number_front (c ∷ cs) n l s d e = rw e (number_longest c cs s d)
 
-pub symbol_front : (cs : List ℕ) (n : ℕ) → 0 < length cs → starts (get_or cs 0 0) ≡ false → is_digit (get_or cs 0 0) ≡ false → n ≡ symbol_len cs → IsLongest is_lexeme cs n
+pub symbol_front : (cs : List ℕ) (n : ℕ) → 0 < length cs → starts (get_or cs 0 0) ≡ false → is_digit (get_or cs 0 0) ≡ false → n ≡ symbol_len cs
+    → IsLongest is_lexeme cs n
 symbol_front [] n l s d e = absurd (not_below l)
 symbol_front (c ∷ cs) n l s d e = rw e (symbol_longest c cs s d)

@@ -1,8 +1,36 @@
 -- The parser reads what the tokens spell, and nothing else.
-use Rattle.std.proofs.Common.{◌≡◌, ℕ, zero, suc, ◌+◌, ◌≤◌, ◌<◌, ◌==◌, Bool, true, false, Option, Some, None, IfSome, List, [], ◌∷◌, ◌++◌, length, refl, sym, subst, ap, ◌∙◌, arith, codes}
+use Rattle.std.proofs.Common.{
+  ◌≡◌,
+  ℕ,
+  zero,
+  suc,
+  ◌+◌,
+  ◌≤◌,
+  ◌<◌,
+  ◌==◌,
+  Bool,
+  true,
+  false,
+  Option,
+  Some,
+  None,
+  IfSome,
+  List,
+  [],
+  ◌∷◌,
+  ◌++◌,
+  length,
+  refl,
+  sym,
+  subst,
+  ap,
+  ◌∙◌,
+  arith,
+  codes,
+}
 use Rattle.std.proofs.lemmas.Bool.{eqb-true}
 use Rattle.lf_core.specs.Term.{Path, Term, sort, pi, level_zero}
-use Rattle.lf_core.specs.Environment.{Environment}
+use Rattle.lf_rules.specs.Environment.{Environment}
 use Rattle.lf_front.specs.declared.token.Token.{Token}
 use Rattle.lf_front.specs.declared.token.Token.TheVariants as token
 use Rattle.lf_front.specs.declared.names.Local.{Local}
@@ -80,7 +108,8 @@ SpelledBy E L ts o = IfSome o (λ p. Spelled E L ts p.1 p.0)
 abbrev AtomBy : Environment → List Local → List Token → Parse → Type 0
 AtomBy E L ts o = IfSome o (λ p. Atom E L ts p.1 p.0)
 
-name_sound : (E : Environment) (L : List Local) (x : Path) (ts : List Token) (o : Option Term) → named_by E L x ≡ o → AtomBy E L (token.Ident x ∷ ts) (parser.behind o ts)
+name_sound : (E : Environment) (L : List Local) (x : Path) (ts : List Token) (o : Option Term) → named_by E L x ≡ o
+    → AtomBy E L (token.Ident x ∷ ts) (parser.behind o ts)
 name_sound E L x ts (Some t) e = grammar.identifier x e
 name_sound E L x ts None e = tt
 
@@ -94,7 +123,8 @@ sort_sound E L [] = grammar.plain_sort refl
 sort_sound E L (token.Number n ∷ ts) = grammar.sort_at n
 sort_sound E L (_ ∷ ts) = grammar.plain_sort refl
 
-closed_sound : (E : Environment) (L : List Local) (ts : List Token) (t : Term) (us : List Token) → Spelled E L ts us t → AtomBy E L (token.Open ∷ ts) (parser.closed_with t (after_close us))
+closed_sound : (E : Environment) (L : List Local) (ts : List Token) (t : Term) (us : List Token) → Spelled E L ts us t
+    → AtomBy E L (token.Open ∷ ts) (parser.closed_with t (after_close us))
 closed_sound E L ts t [] s = tt
 closed_sound E L ts t (token.Close ∷ us) s = grammar.parentheses s
 closed_sound E L ts t (_ ∷ us) s = tt
@@ -103,7 +133,8 @@ parentheses_sound : (E : Environment) (L : List Local) (ts : List Token) (o : Pa
 parentheses_sound E L ts None s = tt
 parentheses_sound E L ts (Some p) s = closed_sound E L ts p.0 p.1 s
 
-atom_sound : (E : Environment) (inner : List Local → List Token → Parse) → ((L : List Local) (ts : List Token) → SpelledBy E L ts (inner L ts)) → (L : List Local) (ts : List Token)
+atom_sound : (E : Environment) (inner : List Local → List Token → Parse) → ((L : List Local) (ts : List Token) → SpelledBy E L ts (inner L ts))
+    → (L : List Local) (ts : List Token)
     → AtomBy E L ts (atom inner E L ts)
 atom_sound E inner ih L [] = tt
 atom_sound E inner ih L (token.Ident x ∷ ts) = name_sound E L x ts (named_by E L x) refl
@@ -113,18 +144,21 @@ atom_sound E inner ih L (token.Sort ∷ ts) = sort_sound E L ts
 atom_sound E inner ih L (token.Open ∷ ts) = parentheses_sound E L ts (inner L ts) (ih L ts)
 atom_sound E inner ih L (_ ∷ ts) = tt
 
-codomain_sound : (E : Environment) (L : List Local) (ts us : List Token) (A : Term) (o : Parse) → Atom E L ts (token.Arrow ∷ us) A → SpelledBy E (L ++ Unnamed ∷ []) us o
+codomain_sound : (E : Environment) (L : List Local) (ts us : List Token) (A : Term) (o : Parse) → Atom E L ts (token.Arrow ∷ us) A
+    → SpelledBy E (L ++ Unnamed ∷ []) us o
     → SpelledBy E L ts (parser.arrow_to A o)
 codomain_sound E L ts us A None a s = tt
 codomain_sound E L ts us A (Some p) a s = grammar.arrow a s
 
-domain_sound : (E : Environment) (inner : List Local → List Token → Parse) → ((L : List Local) (ts : List Token) → SpelledBy E L ts (inner L ts)) → (L : List Local) (ts : List Token) (A : Term)
+domain_sound : (E : Environment) (inner : List Local → List Token → Parse) → ((L : List Local) (ts : List Token) → SpelledBy E L ts (inner L ts))
+    → (L : List Local) (ts : List Token) (A : Term)
     (us : List Token) → Atom E L ts us A → SpelledBy E L ts (parser.after_domain inner L A us (after_arrow us))
 domain_sound E inner ih L ts A [] a = grammar.alone a refl
 domain_sound E inner ih L ts A (token.Arrow ∷ us) a = codomain_sound E L ts us A (inner (L ++ Unnamed ∷ []) us) a (ih (L ++ Unnamed ∷ []) us)
 domain_sound E inner ih L ts A (_ ∷ us) a = grammar.alone a refl
 
-arrows_sound : (E : Environment) (inner : List Local → List Token → Parse) → ((L : List Local) (ts : List Token) → SpelledBy E L ts (inner L ts)) → (L : List Local) (ts : List Token) (o : Parse)
+arrows_sound : (E : Environment) (inner : List Local → List Token → Parse) → ((L : List Local) (ts : List Token) → SpelledBy E L ts (inner L ts))
+    → (L : List Local) (ts : List Token) (o : Parse)
     → AtomBy E L ts o → SpelledBy E L ts (after_atom inner L o)
 arrows_sound E inner ih L ts None a = tt
 arrows_sound E inner ih L ts (Some p) a = domain_sound E inner ih L ts p.0 p.1 a
@@ -133,21 +167,27 @@ not_one : (n : ℕ) → suc (suc n) ≡ 1 → ⊥
 not_one n e = omega arith
 
 all_sound : (E : Environment) (L : List Local) (ts us : List Token) (x : List ℕ) (A : Term) (o : Parse) → Spelled E L ts (token.Close ∷ token.Comma ∷ us) A
-    → SpelledBy E (L ++ Named (x ∷ []) ∷ []) us o → SpelledBy E L (token.Forall ∷ token.Open ∷ token.Ident (x ∷ []) ∷ token.Colon ∷ ts) (parser.all_over (x ∷ []) A o)
+    → SpelledBy E (L ++ Named (x ∷ []) ∷ []) us o
+    → SpelledBy E L (token.Forall ∷ token.Open ∷ token.Ident (x ∷ []) ∷ token.Colon ∷ ts) (parser.all_over (x ∷ []) A o)
 all_sound E L ts us x A None s u = tt
 all_sound E L ts us x A (Some p) s u = grammar.for_all x s u
 
-bound_sound : (E : Environment) (inner : List Local → List Token → Parse) → ((L : List Local) (ts : List Token) → SpelledBy E L ts (inner L ts)) → (L : List Local) (ts : List Token) (x : List ℕ)
+bound_sound : (E : Environment) (inner : List Local → List Token → Parse) → ((L : List Local) (ts : List Token) → SpelledBy E L ts (inner L ts))
+    → (L : List Local) (ts : List Token) (x : List ℕ)
     (A : Term) (us : List Token) → Spelled E L ts us A
-    → SpelledBy E L (token.Forall ∷ token.Open ∷ token.Ident (x ∷ []) ∷ token.Colon ∷ ts) (parser.after_bound inner L (x ∷ []) A (parser.comma_of (after_close us)))
+    → SpelledBy E L (token.Forall ∷ token.Open ∷ token.Ident (x ∷ []) ∷ token.Colon ∷ ts)
+    (parser.after_bound inner L (x ∷ []) A (parser.comma_of (after_close us)))
 bound_sound E inner ih L ts x A [] s = tt
 bound_sound E inner ih L ts x A (token.Close ∷ []) s = tt
-bound_sound E inner ih L ts x A (token.Close ∷ token.Comma ∷ us) s = all_sound E L ts us x A (inner (L ++ Named (x ∷ []) ∷ []) us) s (ih (L ++ Named (x ∷ []) ∷ []) us)
+bound_sound E inner ih L ts x A (token.Close ∷ token.Comma ∷ us) s = all_sound E L ts us x A (inner (L ++ Named (x ∷ []) ∷ []) us) s
+    (ih (L ++ Named (x ∷ []) ∷ []) us)
 bound_sound E inner ih L ts x A (token.Close ∷ _ ∷ us) s = tt
 bound_sound E inner ih L ts x A (_ ∷ us) s = tt
 
-typed_sound : (E : Environment) (inner : List Local → List Token → Parse) → ((L : List Local) (ts : List Token) → SpelledBy E L ts (inner L ts)) → (L : List Local) (ts : List Token) (x : List ℕ)
-    (o : Parse) → SpelledBy E L ts o → SpelledBy E L (token.Forall ∷ token.Open ∷ token.Ident (x ∷ []) ∷ token.Colon ∷ ts) (parser.after_type inner L (x ∷ []) o)
+typed_sound : (E : Environment) (inner : List Local → List Token → Parse) → ((L : List Local) (ts : List Token) → SpelledBy E L ts (inner L ts))
+    → (L : List Local) (ts : List Token) (x : List ℕ)
+    (o : Parse) → SpelledBy E L ts o → SpelledBy E L (token.Forall ∷ token.Open ∷ token.Ident (x ∷ []) ∷ token.Colon ∷ ts)
+    (parser.after_type inner L (x ∷ []) o)
 typed_sound E inner ih L ts x None s = tt
 typed_sound E inner ih L ts x (Some p) s = bound_sound E inner ih L ts x p.0 p.1 s
 
@@ -155,19 +195,22 @@ two_parts : (n : ℕ) (b : Bool) → (suc (suc n) == 1) ≡ b → b ≡ false
 two_parts n false e = refl
 two_parts n true e = let same : suc (suc n) ≡ 1 = eqb-true (suc (suc n)) 1 e in absurd (not_one n same)
 
-one_sound : (E : Environment) (inner : List Local → List Token → Parse) → ((L : List Local) (ts : List Token) → SpelledBy E L ts (inner L ts)) → (L : List Local) (x : Path) (ts : List Token)
+one_sound : (E : Environment) (inner : List Local → List Token → Parse) → ((L : List Local) (ts : List Token) → SpelledBy E L ts (inner L ts))
+    → (L : List Local) (x : Path) (ts : List Token)
     → SpelledBy E L (token.Forall ∷ token.Open ∷ token.Ident x ∷ token.Colon ∷ ts) (parser.group inner L (parser.one_part x ts))
 one_sound E inner ih L [] ts = tt
 one_sound E inner ih L (x ∷ []) ts = typed_sound E inner ih L ts x (inner L ts) (ih L ts)
 one_sound E inner ih L (x ∷ y ∷ ys) ts = rw (two_parts (length ys) _ refl) tt
 
-colon_sound : (E : Environment) (inner : List Local → List Token → Parse) → ((L : List Local) (ts : List Token) → SpelledBy E L ts (inner L ts)) → (L : List Local) (x : Path) (ts : List Token)
+colon_sound : (E : Environment) (inner : List Local → List Token → Parse) → ((L : List Local) (ts : List Token) → SpelledBy E L ts (inner L ts))
+    → (L : List Local) (x : Path) (ts : List Token)
     → SpelledBy E L (token.Forall ∷ token.Open ∷ token.Ident x ∷ ts) (parser.group inner L (parser.named_head x (parser.after_colon ts)))
 colon_sound E inner ih L x [] = tt
 colon_sound E inner ih L x (token.Colon ∷ ts) = one_sound E inner ih L x ts
 colon_sound E inner ih L x (_ ∷ ts) = tt
 
-forall_sound : (E : Environment) (inner : List Local → List Token → Parse) → ((L : List Local) (ts : List Token) → SpelledBy E L ts (inner L ts)) → (L : List Local) (ts : List Token)
+forall_sound : (E : Environment) (inner : List Local → List Token → Parse) → ((L : List Local) (ts : List Token) → SpelledBy E L ts (inner L ts))
+    → (L : List Local) (ts : List Token)
     → SpelledBy E L (token.Forall ∷ ts) (parser.group inner L (parser.group_head (parser.after_open ts)))
 forall_sound E inner ih L [] = tt
 forall_sound E inner ih L (token.Open ∷ []) = tt
@@ -175,7 +218,8 @@ forall_sound E inner ih L (token.Open ∷ token.Ident x ∷ ts) = colon_sound E 
 forall_sound E inner ih L (token.Open ∷ _ ∷ ts) = tt
 forall_sound E inner ih L (_ ∷ ts) = tt
 
-front_sound : (E : Environment) (inner : List Local → List Token → Parse) → ((L : List Local) (ts : List Token) → SpelledBy E L ts (inner L ts)) → (L : List Local) (ts : List Token)
+front_sound : (E : Environment) (inner : List Local → List Token → Parse) → ((L : List Local) (ts : List Token) → SpelledBy E L ts (inner L ts))
+    → (L : List Local) (ts : List Token)
     → SpelledBy E L ts (parser.by_front inner E L ts (after_forall ts))
 front_sound E inner ih L [] = tt
 front_sound E inner ih L (token.Forall ∷ ts) = forall_sound E inner ih L ts

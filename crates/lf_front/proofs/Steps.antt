@@ -1,6 +1,6 @@
 -- One step of the parser.
 use Rattle.std.proofs.Common.{◌≡◌, ℕ, zero, suc, ◌-◌, Option, None, List, arith, refl}
-use Rattle.lf_core.specs.Environment.{Environment}
+use Rattle.lf_rules.specs.Environment.{Environment}
 use Rattle.lf_front.specs.declared.token.Token.{Token}
 use Rattle.lf_front.specs.declared.names.Local.{Local}
 use Rattle.lf_front.specs.Parser.{term, atom, after_atom, after_forall}

@@ -2,11 +2,11 @@
 use Rattle.std.specs.Prelude.{◌≡◌, ℕ, ◌+◌, ◌≤◌, Bool, true, false, if◌then◌else◌, None, Ok, List, [], ◌∷◌, ◌++◌, length}
 use Rattle.lf_core.specs.Term.{Path, Universe, Term, sort}
 use Rattle.lf_core.specs.Size.{depth}
-use Rattle.lf_core.specs.Environment.{Environment}
+use Rattle.lf_rules.specs.Environment.{Environment}
 use Rattle.lf_core.specs.declared.constant.ConstInfo.{ConstInfo}
 use Rattle.lf_core.specs.declared.constant.ConstKind.TheVariants.{Axiom}
 use Rattle.lf_core.specs.declared.constant.Detail.TheVariants.{Plain}
-use Rattle.lf_check.specs.Infer.{type_of}
+use Rattle.lf_front.specs.Infer.{type_of}
 use Rattle.lf_front.specs.declared.token.Token.{Token}
 use Rattle.lf_front.specs.declared.token.Token.TheVariants as token
 use Rattle.lf_front.specs.Lexemes.{Tokens}

@@ -3,9 +3,9 @@ use Rattle.std.specs.Prelude.{◌≡◌, ℕ, zero, suc, ◌≤◌, Bool, true, 
 use Rattle.std.specs.List.{list_any}
 use Rattle.lf_core.specs.Term.{Path, Universe, level_zero, level_succ, Term, bound, sort, const, pi}
 use Rattle.lf_core.specs.Same.{same_path}
-use Rattle.lf_core.specs.Environment.{Environment}
-use Rattle.lf_core.specs.declared.binder.Binder.{Binder}
-use Rattle.lf_core.specs.declared.binder.BinderKind.TheVariants.{Explicit}
+use Rattle.lf_rules.specs.Environment.{Environment}
+use Rattle.lf_name.specs.declared.binder.Binder.{Binder}
+use Rattle.lf_name.specs.declared.binder.BinderKind.TheVariants.{Explicit}
 use Rattle.lf_core.specs.declared.constant.ConstInfo.{ConstInfo}
 use Rattle.lf_front.specs.declared.token.Token.{Token}
 use Rattle.lf_front.specs.declared.token.Token.TheVariants as token

@@ -2,6 +2,8 @@ pub mod Lexemes
 pub mod Scan
 pub mod Grammar
 pub mod Parser
+pub mod Infer
+pub mod Answers
 pub mod Declares
 pub mod Reader
 pub mod Report

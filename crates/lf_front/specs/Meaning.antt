@@ -1,6 +1,6 @@
 -- What a run means: the bytes written and the status, by the words and the bytes that are read.
 use Rattle.std.specs.Prelude.{◌≡◌, ℕ, List, [], ◌∷◌, ◌++◌, codes}
-use Rattle.lf_core.specs.Environment.{Environment}
+use Rattle.lf_rules.specs.Environment.{Environment}
 use Rattle.lf_front.specs.declared.status.Status.{Status}
 use Rattle.lf_front.specs.declared.status.Status.TheVariants as status
 use Rattle.lf_front.specs.Declares.{Accepts}

@@ -1,7 +1,7 @@
 -- The predictive parser of a text of axioms, by the nesting that is left.
 use Rattle.std.specs.Prelude.{◌≡◌, ℕ, zero, suc, Option, Some, None, Result, Ok, Err, List, [], ◌∷◌, ◌++◌, length, ◌==◌, if◌then◌else◌, codes}
 use Rattle.lf_core.specs.Term.{Path, Term, level_zero, sort, pi}
-use Rattle.lf_core.specs.Environment.{Environment}
+use Rattle.lf_rules.specs.Environment.{Environment}
 use Rattle.lf_front.specs.declared.token.Token.{Token}
 use Rattle.lf_front.specs.declared.token.Token.TheVariants as token
 use Rattle.lf_front.specs.declared.names.Local.{Local}

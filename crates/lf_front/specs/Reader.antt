@@ -4,9 +4,9 @@ use Rattle.std.specs.Str.{bytes_eq}
 use Rattle.std.specs.Borrow.{Bor}
 use Rattle.lf_core.specs.Term.{Path, Term, sort}
 use Rattle.lf_core.specs.Size.{depth}
-use Rattle.lf_core.specs.Environment.{Environment}
+use Rattle.lf_rules.specs.Environment.{Environment}
 use Rattle.lf_core.specs.declared.constant.ConstInfo.{ConstInfo}
-use Rattle.lf_check.specs.Infer.{Inferred, type_of}
+use Rattle.lf_front.specs.Infer.{Inferred, type_of}
 use Rattle.lf_front.specs.declared.token.Token.{Token}
 use Rattle.lf_front.specs.declared.token.Token.TheVariants as token
 use Rattle.lf_front.specs.declared.names.Refusal.{Refusal}

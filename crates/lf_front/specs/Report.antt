@@ -1,8 +1,29 @@
 -- The report: a line for each axiom, and the line of counts. Printing follows our docs/language.md, "Printing".
-use Rattle.std.specs.Prelude.{ℕ, zero, suc, ◌==◌, ◌||◌, nat_lt, Bool, true, false, if◌then◌else◌, List, [], ◌∷◌, ◌++◌, slice_get, Option, Some, None, flat_map, codes}
+use Rattle.std.specs.Prelude.{
+  ℕ,
+  zero,
+  suc,
+  ◌==◌,
+  ◌||◌,
+  nat_lt,
+  Bool,
+  true,
+  false,
+  if◌then◌else◌,
+  List,
+  [],
+  ◌∷◌,
+  ◌++◌,
+  slice_get,
+  Option,
+  Some,
+  None,
+  flat_map,
+  codes,
+}
 use Rattle.std.specs.Fmt.{decimal}
-use Rattle.lf_core.specs.Term.{Path, Universe, level_zero, level_succ, Term, bound, free, meta, sort, const, app, lam, pi, letin, lit}
-use Rattle.lf_core.specs.Environment.{Environment}
+use Rattle.lf_core.specs.Term.{Path, Universe, level_zero, level_succ, Term, bound, free, meta, sort, const, app, lam, pi, letin, lit, proj}
+use Rattle.lf_rules.specs.Environment.{Environment}
 use Rattle.lf_core.specs.declared.constant.ConstInfo.{ConstInfo}
 use Rattle.lf_front.specs.Lexemes.{arrow, for_all}
 
@@ -26,6 +47,7 @@ is_used d (meta k) = false
 is_used d (sort l) = false
 is_used d (const c ls) = false
 is_used d (lit n) = false
+is_used d (proj s i t) = is_used d t
 
 abbrev pub number_of : Universe → ℕ
 number_of (level_succ l) = suc (number_of l)

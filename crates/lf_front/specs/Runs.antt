@@ -19,7 +19,8 @@ Meaning = List ℕ → List ℕ → Status → Type 0
 
 -- What is written is a beginning of each text that the bytes mean.
 abbrev pub WritesPart : Outside → Meaning → Type 0
-WritesPart o means = IfSome o.left (λ bytes. (part : List ℕ) × Holds o.held o.held' part × ((text : List ℕ) (s : Status) → means bytes text s → Begins part text))
+WritesPart o means = IfSome o.left (λ bytes. (part : List ℕ) × Holds o.held o.held' part ×
+    ((text : List ℕ) (s : Status) → means bytes text s → Begins part text))
 
 -- The bytes written and the status are what all that the source had means.
 abbrev pub WritesAllOf : Outside → Meaning → Status → Type 0

@@ -1,8 +1,8 @@
 //! The axioms of a text.
 ghost use Rattle.std.specs.Prelude.{◌≡◌, ◌≤◌, ◌++◌, ◌∷◌, [], All, Ok, IfOk, IfSome, OnOk, IsTrue, ◌↔◌, ℕ, length};
 ghost use Rattle.lf_core.specs.Size as size;
-ghost use Rattle.lf_check.specs.Answers.{IsShallow};
-ghost use Rattle.lf_check.specs.Infer.{type_of};
+ghost use Rattle.lf_front.specs.Answers.{IsShallow};
+ghost use Rattle.lf_front.specs.Infer.{type_of};
 ghost use Rattle.lf_front.specs.Declares.{nesting, axiom_of};
 ghost use Rattle.lf_front.specs.Parser.{Parses, IsHead};
 ghost use Rattle.lf_front.specs.Reader as reader;
@@ -11,7 +11,7 @@ ghost use Rattle.lf_front.specs.Reader.{ReadsOne, ReadsAll};
 use crate::names::{Refusal, is_declared};
 use crate::parse::{after_colon, after_identifier, term};
 use crate::token::Token;
-use lf_check::{CheckCx, infer};
+use crate::typing::{CheckCx, infer};
 use lf_core::{Ans, ConstInfo, ConstKind, Detail, Expr, ExprNode, Name, NoMemory, discard};
 use sqlite_items::Items;
 use std::alloc::Global;

@@ -2,15 +2,19 @@
 #![tactic(auto)]
 
 mod axioms;
+mod fault;
 mod names;
 mod parse;
 mod report;
 mod serial;
 mod status;
 mod token;
+mod typing;
 
 pub use serial::run_serial;
 pub use status::Status;
 
 #[cfg(test)]
 mod tests;
+#[cfg(test)]
+mod typing_tests;

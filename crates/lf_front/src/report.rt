@@ -1,7 +1,7 @@
 //! The report.
 ghost use Rattle.std.specs.Prelude.{◌≡◌, ◌++◌, ◌+◌, ◌^◌, ◌<◌, ◌≤◌, ◌∷◌, [], All, IfOk, IfSome, OnOk, flat_map, slice_get};
 ghost use Rattle.lf_core.specs.Size as size;
-ghost use Rattle.lf_check.specs.Answers.{IsShallow};
+ghost use Rattle.lf_front.specs.Answers.{IsShallow};
 ghost use Rattle.lf_front.specs.Report as spec;
 
 use lf_core::{ConstInfo, Expr, ExprNode, Level, LevelNode, Name, NoMemory};
@@ -18,7 +18,12 @@ fn is_used(d: u32, term: &Expr) -> bool
         ExprNode::App(f, a) => is_used(d, f) || is_used(d, a),
         ExprNode::Lam(_, a, b) | ExprNode::Pi(_, a, b) => is_used(d, a) || is_used(d + 1, b),
         ExprNode::Let(_, a, v, b) => is_used(d, a) || is_used(d, v) || is_used(d + 1, b),
-        _ => false,
+        ExprNode::Proj(_, _, t) => is_used(d, t),
+        ExprNode::Free(_)
+        | ExprNode::Meta(_)
+        | ExprNode::Sort(_)
+        | ExprNode::Const(_, _)
+        | ExprNode::Lit(_) => false,
     }
 }
 

@@ -1,8 +1,8 @@
 //! The top call.
 ghost use Rattle.std.specs.Prelude.{◌≡◌, ◌≤◌, ℕ, List, true, MatchResult, map, string_bytes, length};
 ghost use Rattle.lf_base.specs.Outside.{rose};
-ghost use Rattle.lf_core.specs.Derived.{Derived};
-ghost use Rattle.lf_core.specs.Environment.{Environment};
+ghost use Rattle.lf_rules.specs.Derived.{Derived};
+ghost use Rattle.lf_rules.specs.Environment.{Environment};
 ghost use Rattle.lf_front.specs.declared.status.Status.{Status as StatusValue};
 ghost use Rattle.lf_front.specs.Declares.{Accepts};
 ghost use Rattle.lf_front.specs.Meaning.{Means};
@@ -92,6 +92,8 @@ pub fn run_serial<S: Source, K: Sink>(
     // Words and bytes mean one text and one status.
     ensures one { (bytes text other : List ℕ) (s t : StatusValue) → Means (map string_bytes words.now) bytes text s
         → Means (map string_bytes words.now) bytes other t → (text ≡ other) × (s ≡ t) }
+    // And it isn't the case that they mean none.
+    ensures some { (bytes : List ℕ) → ((text : List ℕ) (s : StatusValue) → Means (map string_bytes words.now) bytes text s → ⊥) → ⊥ }
     // The axioms of an accepted text are derived.
     ensures derived { (bytes : List ℕ) (axioms : Environment) → Accepts bytes axioms → Derived axioms }
 {

@@ -1,16 +1,17 @@
 -- Tokens that finish each stack in which symbols are followed by what they ask.
 use Rattle.std.proofs.Common.{◌≡◌, ℕ, List, [], ◌∷◌, ◌++◌, Bool, true, false, ◌&&◌, Option, Some, None, refl, sym, true≢false, nat_eq, eq-eqb}
-use Rattle.lf_syntax.specs.declared.piece.Word.TheVariants as words
-use Rattle.lf_syntax.specs.declared.Spelling.TheVariants as spelt
+use Rattle.lf_text.specs.declared.word.Word.TheVariants as words
+use Rattle.lf_text.specs.declared.word.Spelling.TheVariants as spelt
 use Rattle.lf_syntax.specs.declared.leaf.Ident.{Ident}
-use Rattle.lf_syntax.specs.declared.leaf.Op.TheVariants.{Arrow}
+use Rattle.lf_text.specs.declared.operator.Op.TheVariants.{Arrow}
 use Rattle.lf_syntax.specs.Tree.{level_name}
+use Rattle.lf_syntax.specs.declared.pattern.Pattern.TheVariants.{Constructor}
 use Rattle.lf_syntax.specs.Predictive.{Grammar, Quiet, Reads, nothing, left_out, taken}
-use Rattle.lf_syntax.specs.declared.piece.Spelling.{Spelling}
+use Rattle.lf_text.specs.declared.word.Spelling.{Spelling}
 use Rattle.lf_syntax.specs.Piece as piece
-use Rattle.lf_syntax.specs.declared.piece.Word.{Word}
+use Rattle.lf_text.specs.declared.word.Word.{Word}
 use Rattle.lf_syntax.specs.Piece.{Class, Piece, word_code}
-use Rattle.lf_syntax.specs.Symbol.{Symbol, Tree, arguments_to, any_name, any_names, arguments, arrow_token, binder, binder_end, binder_name, binder_names, block, command, ctors, def_rest, group, group_close, group_end, group_names, helper, helpers, imax_rest, implicit_end, item, lambda_binder, lambda_binders, level, level_atom, level_atoms, level_names, max_rest, more_helpers, more_items, more_level_names, more_levels, more_rules, number_token, one_part, one_parts, operators, optional_name, parameters, plus_option, rw_rule, term, token, type_option, where_option, written_levels}
+use Rattle.lf_syntax.specs.Symbol.{Symbol, Tree, arguments_to, any_name, any_names, arguments, arrow_token, binder, binder_end, binder_name, binder_names, block, command, ctors, def_rest, group, group_close, group_end, group_names, helper, helpers, imax_rest, implicit_end, item, lambda_binder, lambda_binders, level, level_atom, level_atoms, level_names, max_rest, more_helpers, more_items, more_level_names, more_levels, more_rules, number_token, one_part, one_parts, operators, optional_name, parameters, plus_option, rw_rule, term, token, type_option, where_option, written_levels, alternatives, axioms_word, bracket, bracket_name, def_body, field, fields_option, more_fields, numeral_one, pattern, pattern_rest}
 use Rattle.lf_syntax.specs.Row.{Prod, then, if_true, first_row}
 use Rattle.lf_syntax.specs.Build.{is_underscore, underscore_at}
 use Rattle.lf_syntax.specs.Rows.{group_names_rows_by}
@@ -237,6 +238,33 @@ quiet_imax_rest x _ (colon_behind ts) = refl
 leave_imax_rest : (x : Ident) (ts : List Piece) → Calm true ts → Reads grammar ((imax_rest x) ∷ []) ts ts
 leave_imax_rest x ts h = left_out (level_name x) refl (quiet_imax_rest x ts h) nothing
 
+quiet_fields_option : (ts : List Piece) → Calm true ts → Quiet grammar fields_option ts
+quiet_fields_option _ ended = tt
+quiet_fields_option _ (closed c_right_paren ts) = refl
+quiet_fields_option _ (closed _ ts) = refl
+quiet_fields_option _ (colon_behind ts) = refl
+
+leave_fields_option : (ts : List Piece) → Calm true ts → Reads grammar (fields_option ∷ []) ts ts
+leave_fields_option ts h = left_out [] refl (quiet_fields_option ts h) nothing
+
+quiet_alternatives : (ts : List Piece) → Calm true ts → Quiet grammar alternatives ts
+quiet_alternatives _ ended = tt
+quiet_alternatives _ (closed c_right_paren ts) = refl
+quiet_alternatives _ (closed _ ts) = refl
+quiet_alternatives _ (colon_behind ts) = refl
+
+leave_alternatives : (ts : List Piece) → Calm true ts → Reads grammar (alternatives ∷ []) ts ts
+leave_alternatives ts h = left_out [] refl (quiet_alternatives ts h) nothing
+
+quiet_pattern_rest : (x : Ident) (ts : List Piece) → Calm true ts → Quiet grammar (pattern_rest x) ts
+quiet_pattern_rest x _ ended = tt
+quiet_pattern_rest x _ (closed c_right_paren ts) = refl
+quiet_pattern_rest x _ (closed _ ts) = refl
+quiet_pattern_rest x _ (colon_behind ts) = refl
+
+leave_pattern_rest : (x : Ident) (ts : List Piece) → Calm true ts → Reads grammar (pattern_rest x ∷ []) ts ts
+leave_pattern_rest x ts h = left_out (Constructor x []) refl (quiet_pattern_rest x ts h) nothing
+
 one_row : (p : Prod (Unit {0})) (b : Bool) → b ≡ true → (elim (if_true b p) as (λ _. Option (Prod (Unit {0}))) [ Some q ↦ Some q | None ↦ None ]) ≡ Some p
 one_row p true e = refl
 one_row p false e = absurd (true≢false (sym e))
@@ -254,7 +282,7 @@ abbrev pub tokens_for : Symbol → List Piece
 tokens_for command = of_word words.Section ∷ []
 tokens_for (token w) = of_word w ∷ []
 tokens_for arrow_token = record { class = piece.operator Arrow; at = 0; «end» = 0; nesting = 0 } ∷ []
-tokens_for number_token = record { class = piece.number 0; at = 0; «end» = 0; nesting = 0 } ∷ []
+tokens_for number_token = record { class = piece.number 0 1; at = 0; «end» = 0; nesting = 0 } ∷ []
 tokens_for any_name = of_name spelt.Plain ∷ []
 tokens_for one_part = of_name spelt.Plain ∷ []
 tokens_for binder_name = of_word words.Underscore ∷ []
@@ -285,9 +313,9 @@ tokens_for group_close = of_word words.RightParen ∷ []
 tokens_for binder_end = []
 tokens_for written_levels = []
 tokens_for more_levels = of_word words.RightBrace ∷ []
-tokens_for level = record { class = piece.number 0; at = 0; «end» = 0; nesting = 0 } ∷ []
+tokens_for level = record { class = piece.number 0 1; at = 0; «end» = 0; nesting = 0 } ∷ []
 tokens_for plus_option = []
-tokens_for level_atom = record { class = piece.number 0; at = 0; «end» = 0; nesting = 0 } ∷ []
+tokens_for level_atom = record { class = piece.number 0 1; at = 0; «end» = 0; nesting = 0 } ∷ []
 tokens_for level_atoms = []
 tokens_for (max_rest x) = []
 tokens_for (imax_rest x) = []
@@ -296,6 +324,17 @@ tokens_for more_items = of_word words.LayoutClose ∷ []
 tokens_for item = of_name spelt.Rfl ∷ []
 tokens_for rw_rule = of_word words.Underscore ∷ []
 tokens_for more_rules = of_word words.RightBracket ∷ []
+tokens_for (bracket at) = of_word words.Underscore ∷ of_word words.RightBracket ∷ []
+tokens_for (bracket_name at x) = of_word words.RightBracket ∷ []
+tokens_for def_body = of_word words.Assign ∷ of_word words.Underscore ∷ []
+tokens_for fields_option = []
+tokens_for field = of_name spelt.Plain ∷ of_word words.Colon ∷ of_word words.Underscore ∷ []
+tokens_for more_fields = of_word words.LayoutClose ∷ []
+tokens_for axioms_word = of_name spelt.Axioms ∷ []
+tokens_for alternatives = []
+tokens_for pattern = record { class = piece.number 0 1; at = 0; «end» = 0; nesting = 0 } ∷ []
+tokens_for (pattern_rest x) = []
+tokens_for numeral_one = record { class = piece.number 1 1; at = 0; «end» = 0; nesting = 0 } ∷ []
 tokens_for (group_names at before x) = of_word words.RightParen ∷ []
 
 calmer : (ts : List Piece) → Calm false ts → Calm true ts
@@ -333,7 +372,7 @@ pub finish : (x : Symbol) (ts : List Piece) → Behind (asks x) ts → Reads gra
 finish command ts h = took command (of_word words.Section) ts ts (leave_optional_name ts (calmer ts h))
 finish (token w) ts h = take_token w ts
 finish arrow_token ts h = took arrow_token (record { class = piece.operator Arrow; at = 0; «end» = 0; nesting = 0 }) ts ts nothing
-finish number_token ts h = took number_token (record { class = piece.number 0; at = 0; «end» = 0; nesting = 0 }) ts ts nothing
+finish number_token ts h = took number_token (record { class = piece.number 0 1; at = 0; «end» = 0; nesting = 0 }) ts ts nothing
 finish any_name ts h = took any_name (of_name spelt.Plain) ts ts nothing
 finish one_part ts h = took one_part (of_name spelt.Plain) ts ts nothing
 finish binder_name ts h = took binder_name (of_word words.Underscore) ts ts nothing
@@ -364,9 +403,9 @@ finish group_close ts h = took group_close (of_word words.RightParen) ts ts (lea
 finish binder_end ts h = leave_binder_end ts h
 finish written_levels ts h = leave_written_levels ts h
 finish more_levels ts h = took more_levels (of_word words.RightBrace) ts ts nothing
-finish level ts h = took level (record { class = piece.number 0; at = 0; «end» = 0; nesting = 0 }) ts ts (leave_plus_option ts h)
+finish level ts h = took level (record { class = piece.number 0 1; at = 0; «end» = 0; nesting = 0 }) ts ts (leave_plus_option ts h)
 finish plus_option ts h = leave_plus_option ts h
-finish level_atom ts h = took level_atom (record { class = piece.number 0; at = 0; «end» = 0; nesting = 0 }) ts ts nothing
+finish level_atom ts h = took level_atom (record { class = piece.number 0 1; at = 0; «end» = 0; nesting = 0 }) ts ts nothing
 finish level_atoms ts h = leave_level_atoms ts h
 finish (max_rest x) ts h = leave_max_rest x ts h
 finish (imax_rest x) ts h = leave_imax_rest x ts h
@@ -375,6 +414,21 @@ finish more_items ts h = took more_items (of_word words.LayoutClose) ts ts nothi
 finish item ts h = took item (of_name spelt.Rfl) ts ts nothing
 finish rw_rule ts h = took rw_rule (of_word words.Underscore) ts ts (both (leave_arguments ts h) (leave_operators 0 100 ts h))
 finish more_rules ts h = took more_rules (of_word words.RightBracket) ts ts nothing
+finish (bracket at) ts h = took (bracket at) (of_word words.Underscore) (of_word words.RightBracket ∷ ts) ts
+    (both (leave_arguments (of_word words.RightBracket ∷ ts) (closed c_right_bracket ts))
+    (both (leave_operators 0 100 (of_word words.RightBracket ∷ ts) (closed c_right_bracket ts)) (take_token words.RightBracket ts)))
+finish (bracket_name at x) ts h = took (bracket_name at x) (of_word words.RightBracket) ts ts nothing
+finish def_body ts h = took def_body (of_word words.Assign) (of_word words.Underscore ∷ ts) ts (both (take_term 0 ts h) (leave_helpers ts h))
+finish fields_option ts h = leave_fields_option ts h
+finish field ts h = took field (of_name spelt.Plain) (of_word words.Colon ∷ of_word words.Underscore ∷ ts) ts
+    (both (leave_one_parts (of_word words.Colon ∷ of_word words.Underscore ∷ ts) (colon_behind (of_word words.Underscore ∷ ts)))
+    (both (take_token words.Colon (of_word words.Underscore ∷ ts)) (take_term 0 ts h)))
+finish more_fields ts h = took more_fields (of_word words.LayoutClose) ts ts nothing
+finish axioms_word ts h = took axioms_word (of_name spelt.Axioms) ts ts nothing
+finish alternatives ts h = leave_alternatives ts h
+finish pattern ts h = took pattern (record { class = piece.number 0 1; at = 0; «end» = 0; nesting = 0 }) ts ts nothing
+finish (pattern_rest x) ts h = leave_pattern_rest x ts h
+finish numeral_one ts h = took numeral_one (record { class = piece.number 1 1; at = 0; «end» = 0; nesting = 0 }) ts ts nothing
 finish (group_names at before x) ts h = finish_group_names at before x ts h
 
 -- The tokens that finish a stack.
@@ -446,6 +500,17 @@ symbol_is more_items n ts h = is_closer c_layout_close (ts)
 symbol_is item n ts h = is_other
 symbol_is rw_rule n ts h = is_other
 symbol_is more_rules n ts h = is_closer c_right_bracket (ts)
+symbol_is (bracket at) n ts h = is_other
+symbol_is (bracket_name at x) n ts h = is_closer c_right_bracket (ts)
+symbol_is def_body n ts h = is_closer c_assign (of_word words.Underscore ∷ ts)
+symbol_is fields_option n ts h = h
+symbol_is field n ts h = is_other
+symbol_is more_fields n ts h = is_closer c_layout_close (ts)
+symbol_is axioms_word n ts h = is_other
+symbol_is alternatives n ts h = h
+symbol_is pattern n ts h = is_other
+symbol_is (pattern_rest x) n ts h = h
+symbol_is numeral_one n ts h = is_other
 symbol_is (group_names at before x) n ts h = is_closer c_right_paren (ts)
 
 pub next_is : (xs : List Symbol) → NextIs (next xs at_end) (closing xs)

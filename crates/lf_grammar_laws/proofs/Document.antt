@@ -6,9 +6,10 @@ use Rattle.lf_syntax.specs.declared.command.Command.{Command}
 use Rattle.lf_syntax.specs.declared.command.Command.TheVariants.{Bad}
 use Rattle.lf_syntax.specs.Predictive.{Grammar, Takes, Reads, nothing, left_out, taken, tree}
 use Rattle.lf_syntax.specs.Piece.{Piece}
-use Rattle.lf_syntax.specs.Symbol.{command}
+use Rattle.lf_syntax.specs.Symbol.{command, DefBody, by_value, by_alternatives}
 use Rattle.lf_syntax.specs.Row.{Prod}
-use Rattle.lf_syntax.specs.Rows.{command_rows}
+use Rattle.lf_syntax.specs.Rows.{command_rows, defined, decl_of}
+use Rattle.lf_syntax.specs.declared.command.Decl.{Decl}
 use Rattle.lf_syntax.specs.Grammar.{grammar, Answer, IsAnswer, is_command, is_bad, is_short}
 use Rattle.lf_syntax.specs.Document.{first_deep, IsCommand, too_deep, derived, unexpected, unfinished, inside, AreCommands}
 use Rattle.lf_syntax.specs.Classes.{pieces_of}
@@ -115,29 +116,12 @@ abbrev IsGood : Command → Type 0
 IsGood (Bad at f) = ⊥
 IsGood _ = Unit {0}
 
+defined_good : (d : Decl) (b : DefBody) → IsGood (defined d b)
+defined_good d (by_value v hs) = tt
+defined_good d (by_alternatives more) = tt
+
 commands_good : InRows (λ (p : Prod Command). Always grammar IsGood p.body p.build) command_rows
-commands_good = (
-  λ at x ls bs u ty. tt,
-  (
-    λ at x ls bs d. tt,
-    (
-      λ at x ls bs u ty v e hs. tt,
-      (
-        λ at x ls bs ty u cs. tt,
-        (
-          λ at x. tt,
-          (
-            λ at x. tt,
-            (
-              λ at x. tt,
-              (λ at x xs. tt, (λ at x xs. tt, (λ at b bs. tt, (λ at t. tt, (λ at t. tt, tt))))),
-            ),
-          ),
-        ),
-      ),
-    ),
-  ),
-)
+commands_good = (λ at x ls bs u ty. tt, (λ at x ls bs d. defined_good (decl_of at x ls bs d.ty) d.body, (λ at x ls bs u ty v e hs. tt, (λ at x ls bs ty u cs. tt, (λ at x ls bs ty fs. tt, (λ at x ls bs ty fs. tt, (λ at x ls bs u ty v t. tt, (λ at x. tt, (λ at x. tt, (λ at x. tt, (λ at x xs. tt, (λ at x xs. tt, (λ at b bs. tt, (λ at t. tt, (λ at t. tt, (λ at u x. tt, tt))))))))))))))))
 
 reads_good : (ts rest : List Piece) (d : Reads grammar (command ∷ []) ts rest) → IsGood (tree d (λ c. c))
 reads_good ts rest (left_out v e q d) = cc

@@ -1,8 +1,8 @@
 -- What may follow each symbol on the machine's stack, so that the stack can be finished.
 use Rattle.std.proofs.Common.{List, [], ◌∷◌, Bool, true, false, not, ◌&&◌, ◌||◌}
-use Rattle.lf_syntax.specs.declared.piece.Word.TheVariants as words
-use Rattle.lf_syntax.specs.declared.piece.Word.{Word}
-use Rattle.lf_syntax.specs.Symbol.{Symbol, any_name, any_names, arguments, arrow_token, binder, binder_end, binder_name, binder_names, block, command, ctors, def_rest, group, group_close, group_end, group_names, helper, helpers, imax_rest, implicit_end, item, lambda_binder, lambda_binders, level, level_atom, level_atoms, level_names, max_rest, more_helpers, more_items, more_level_names, more_levels, more_rules, number_token, one_part, one_parts, operators, optional_name, parameters, plus_option, rw_rule, term, token, type_option, where_option, written_levels}
+use Rattle.lf_text.specs.declared.word.Word.TheVariants as words
+use Rattle.lf_text.specs.declared.word.Word.{Word}
+use Rattle.lf_syntax.specs.Symbol.{Symbol, any_name, any_names, arguments, arrow_token, binder, binder_end, binder_name, binder_names, block, command, ctors, def_rest, group, group_close, group_end, group_names, helper, helpers, imax_rest, implicit_end, item, lambda_binder, lambda_binders, level, level_atom, level_atoms, level_names, max_rest, more_helpers, more_items, more_level_names, more_levels, more_rules, number_token, one_part, one_parts, operators, optional_name, parameters, plus_option, rw_rule, term, token, type_option, where_option, written_levels, alternatives, axioms_word, bracket, bracket_name, def_body, field, fields_option, more_fields, numeral_one, pattern, pattern_rest}
 
 -- What stands first among the tokens that finish a stack: nothing, a token that nothing optional begins with, a words.Colon, another.
 pub data Next : Type 0 where
@@ -59,6 +59,17 @@ asks more_items = nothing_more
 asks item = calm_next
 asks rw_rule = calm_next
 asks more_rules = nothing_more
+asks (bracket at) = nothing_more
+asks (bracket_name at x) = nothing_more
+asks def_body = calm_next
+asks fields_option = calm_next
+asks field = calm_next
+asks more_fields = nothing_more
+asks axioms_word = nothing_more
+asks alternatives = calm_next
+asks pattern = calm_next
+asks (pattern_rest x) = calm_next
+asks numeral_one = nothing_more
 
 abbrev pub allows : Asks → Next → Bool
 allows nothing_more n = true
@@ -82,6 +93,10 @@ word_next words.End = other
 word_next words.Open = other
 word_next words.Universe = other
 word_next words.Variable = other
+word_next words.Structure = other
+word_next words.Class = other
+word_next words.Instance = other
+word_next words.Print = other
 word_next words.Check = other
 word_next words.Reduce = other
 word_next words.LeftOut = other
@@ -164,6 +179,17 @@ next_of more_items n = closer
 next_of item n = other
 next_of rw_rule n = other
 next_of more_rules n = closer
+next_of (bracket at) n = other
+next_of (bracket_name at x) n = closer
+next_of def_body n = closer
+next_of fields_option n = n
+next_of field n = other
+next_of more_fields n = closer
+next_of axioms_word n = other
+next_of alternatives n = n
+next_of pattern n = other
+next_of (pattern_rest x) n = n
+next_of numeral_one n = other
 
 abbrev pub next : List Symbol → Next → Next
 next [] n = n

@@ -2,9 +2,9 @@
 use Rattle.std.proofs.Common.{◌≡◌, ℕ, List, [], ◌∷◌, Bool, true, false, Option, Some, None, refl, subst, ◌∙◌}
 use Rattle.lf_syntax.specs.declared.leaf.Ident.{Ident}
 use Rattle.lf_syntax.specs.declared.leaf.Num.{Num}
-use Rattle.lf_syntax.specs.declared.leaf.Op.{Op}
+use Rattle.lf_text.specs.declared.operator.Op.{Op}
 use Rattle.lf_syntax.specs.Piece.{Class, word, name, number, operator}
-use Rattle.lf_syntax.specs.Row.{Row, Prod, on_word, on_name, on_one_part, on_spelling, on_number, on_operator, try, first_row, if_true}
+use Rattle.lf_syntax.specs.Row.{Row, Prod, on_word, on_name, on_one_part, on_spelling, on_number, on_digit, on_operator, try, first_row, if_true}
 
 abbrev pub InRow : {V : Type 0} → (Prod V → Type 0) → Row V → Type 0
 InRow Q (on_word w f) = (at : ℕ) → Q (f at)
@@ -12,6 +12,7 @@ InRow Q (on_name f) = (x : Ident) → Q (f x)
 InRow Q (on_one_part f) = (x : Ident) → Q (f x)
 InRow Q (on_spelling s f) = (x : Ident) → Q (f x)
 InRow Q (on_number f) = (n : Num) → Q (f n)
+InRow Q (on_digit d f) = (at : ℕ) → Q (f at)
 InRow Q (on_operator test f) = (o : Op) → test o ≡ true → Q (f o)
 
 abbrev pub InRows : {V : Type 0} → (Prod V → Type 0) → List (Row V) → Type 0
@@ -30,7 +31,8 @@ try_in Q (on_word w f) (word v) at p h e = if_in Q _ (f at) p (λ _. h at) e
 try_in Q (on_name f) (name s x) at p h e = some_in Q (f (record { at = at; name = x })) p (h (record { at = at; name = x })) e
 try_in Q (on_one_part f) (name s x) at p h e = if_in Q _ (f (record { at = at; name = x })) p (λ _. h (record { at = at; name = x })) e
 try_in Q (on_spelling r f) (name s x) at p h e = if_in Q _ (f (record { at = at; name = x })) p (λ _. h (record { at = at; name = x })) e
-try_in Q (on_number f) (number n) at p h e = some_in Q (f (record { at = at; value = n })) p (h (record { at = at; value = n })) e
+try_in Q (on_number f) (number n digits) at p h e = some_in Q (f (record { at = at; value = n })) p (h (record { at = at; value = n })) e
+try_in Q (on_digit d f) (number n digits) at p h e = if_in Q _ (f at) p (λ _. h at) e
 try_in Q (on_operator test f) (operator o) at p h e = if_in Q (test o) (f o) p (h o) e
 try_in Q _ _ at p h e = cc
 

@@ -2,22 +2,26 @@
 use Rattle.std.proofs.Common.{◌≡◌, ℕ, ◌≤◌, List, [], ◌∷◌, ◌++◌, map, Bool, true, false, Option, Some, None, subst, arith}
 use Rattle.std.proofs.lemmas.Bool.Decides.{nat_tests}
 use Rattle.lf_syntax.specs.declared.leaf.Ident.{Ident}
-use Rattle.lf_syntax.specs.declared.leaf.Op.{Op}
-use Rattle.lf_syntax.specs.declared.leaf.Op.TheVariants.{Iff, Arrow, Or, And, Eq, Ne, Add, Sub, Mul, Div, Mod}
+use Rattle.lf_syntax.specs.declared.term.Binders.{Binders}
+use Rattle.lf_syntax.specs.declared.command.Decl.{Decl}
+use Rattle.lf_name.specs.declared.binder.BinderKind.TheVariants.{Inst}
+use Rattle.lf_text.specs.declared.operator.Op.{Op}
+use Rattle.lf_text.specs.declared.operator.Op.TheVariants.{Iff, Arrow, Or, And, Eq, Ne, Add, Sub, Mul, Div, Mod}
 use Rattle.lf_syntax.specs.Tree.{LevelTree, TermTree, ident, hole, type_u, sort_u, paren, oper, not_term, option_of, terms_of, LBinderTree, binders_of, ItemTree, items_of, RuleTree, rules_of, rule, place}
-use Rattle.lf_syntax.specs.Levels.{op_level, left_of, right_of, takes, operand_level, not_level}
+use Rattle.lf_text.specs.Operators.{op_level, left_of, right_of}
+use Rattle.lf_syntax.specs.Levels.{takes, operand_level, not_level}
 use Rattle.lf_syntax.specs.Predictive.{Takes, join, Reads, nothing, left_out, taken, tree}
 use Rattle.lf_syntax.specs.Piece.{Piece}
 use Rattle.lf_syntax.specs.Symbol as symbol
-use Rattle.lf_syntax.specs.Symbol.{Symbol, Tree, Spine, GroupEnd, BinderEnd, arrow_to, arguments_to, DefRest, command}
+use Rattle.lf_syntax.specs.Symbol.{Symbol, Tree, Spine, GroupEnd, BinderEnd, arrow_to, arguments_to, DefRest, DefBody, by_value, by_alternatives, command}
 use Rattle.lf_syntax.specs.Build.{with_arguments, applied, chain, names_spine, name_term, spine_of, group_of, close_of, sort_spine, sort_or_none, level_of, is_underscore, underscore_at}
-use Rattle.lf_syntax.specs.Row.{Row, Prod, then, on_word, on_name, on_one_part, on_spelling, on_number, on_operator, begins_as}
-use Rattle.lf_syntax.specs.Rows.{rows, without, implicit_binder, name_levels_rows, operand_rows, term_rows, argument_rows, operator_rows, group_end_rows, group_names_rows_by}
-use Rattle.lf_syntax.specs.declared.piece.Word.TheVariants as words
+use Rattle.lf_syntax.specs.Row.{Row, Prod, then, on_word, on_name, on_one_part, on_spelling, on_number, on_digit, on_operator, begins_as}
+use Rattle.lf_syntax.specs.Rows.{rows, without, implicit_binder, binders_at, unnamed, defined, decl_of, bracket_name_rows, written_levels_rows, name_levels_rows, operand_rows, term_rows, argument_rows, operator_rows, group_end_rows, group_names_rows_by}
+use Rattle.lf_text.specs.declared.word.Word.TheVariants as words
 use Rattle.lf_syntax.specs.Grammar.{grammar}
 use Rattle.lf_grammar_laws.specs.Laws.{LevelsKept}
 use Rattle.lf_grammar_laws.proofs.Found.{InRows, found}
-use Rattle.lf_grammar_laws.specs.Leveled.{term_level, Leveled, OptionLeveled, ArgumentsLeveled, LambdaLeveled, LambdasLeveled, ItemLeveled, ItemsLeveled, RuleLeveled, RulesLeveled, All, IfAny, GroupLeveled, HelperLeveled, CtorLeveled, CommandLeveled}
+use Rattle.lf_grammar_laws.specs.Leveled.{term_level, Leveled, OptionLeveled, ArgumentsLeveled, LambdaLeveled, LambdasLeveled, ItemLeveled, ItemsLeveled, RuleLeveled, RulesLeveled, All, IfAny, GroupLeveled, HelperLeveled, CtorLeveled, FieldLeveled, AlternativeLeveled, DeclLeveled, CommandLeveled}
 
 -- Terms that can be a head or an argument.
 abbrev Operand : TermTree → Type 0
@@ -83,6 +87,10 @@ abbrev EndFits : BinderEnd → Type 0
 EndFits (arrow_to b) = Leveled b
 EndFits (arguments_to ts) = All Operand ts
 
+abbrev BodyFits : DefBody → Type 0
+BodyFits (by_value v hs) = Leveled v × All HelperLeveled hs
+BodyFits (by_alternatives more) = All AlternativeLeveled more
+
 -- What holds of the tree of each symbol.
 abbrev Fits : (x : Symbol) → Tree x → Type 0
 Fits symbol.command c = CommandLeveled c
@@ -92,7 +100,14 @@ Fits symbol.lambda_binder b = LambdaLeveled b
 Fits symbol.lambda_binders bs = All LambdaLeveled bs
 Fits symbol.implicit_end t = IfAny Leveled t
 Fits symbol.type_option t = IfAny Leveled t
-Fits symbol.def_rest d = IfAny Leveled d.ty × Leveled d.value × All HelperLeveled d.helpers
+Fits symbol.def_rest d = IfAny Leveled d.ty × BodyFits d.body
+Fits symbol.def_body d = BodyFits d
+Fits (symbol.bracket at) b = GroupLeveled b
+Fits (symbol.bracket_name at x) b = GroupLeveled b
+Fits symbol.fields_option fs = All FieldLeveled fs
+Fits symbol.field f = FieldLeveled f
+Fits symbol.more_fields fs = All FieldLeveled fs
+Fits symbol.alternatives more = All AlternativeLeveled more
 Fits symbol.ctors cs = All CtorLeveled cs
 Fits symbol.helpers hs = All HelperLeveled hs
 Fits symbol.more_helpers hs = All HelperLeveled hs
@@ -133,6 +148,7 @@ begins_fit P Q (on_name f ∷ rs) ys k h g = (λ x. given_join P Q (f x).body ys
 begins_fit P Q (on_one_part f ∷ rs) ys k h g = (λ x. given_join P Q (f x).body ys (f x).build k (h.0 x) g, begins_fit P Q rs ys k h.1 g)
 begins_fit P Q (on_spelling s f ∷ rs) ys k h g = (λ x. given_join P Q (f x).body ys (f x).build k (h.0 x) g, begins_fit P Q rs ys k h.1 g)
 begins_fit P Q (on_number f ∷ rs) ys k h g = (λ n. given_join P Q (f n).body ys (f n).build k (h.0 n) g, begins_fit P Q rs ys k h.1 g)
+begins_fit P Q (on_digit d f ∷ rs) ys k h g = (λ at. given_join P Q (f at).body ys (f at).build k (h.0 at) g, begins_fit P Q rs ys k h.1 g)
 begins_fit P Q (on_operator test f ∷ rs) ys k h g = (λ o e. given_join P Q (f o).body ys (f o).build k (h.0 o e) g, begins_fit P Q rs ys k h.1 g)
 
 append_fit : {V : Type 0} (Q : V → Type 0) (rs ss : List (Row V)) → RowsFit Q rs → RowsFit Q ss → RowsFit Q (rs ++ ss)
@@ -226,7 +242,7 @@ operands_fit = (
                         λ at x _ ty fty _ _ v fv _ _ t ft. (((option_fits ty fty, fv.0, ft.0), least_operand), tt),
                         (
                           λ at items f. ((items_fit items f, least_operand), tt),
-                          (λ at x _ xs _ _ _ ty fty _ _ _ _ t ft. (((fty.0, ft.0), least_operand), tt), tt),
+                          (λ at x _ xs _ _ _ ty fty _ _ _ _ t ft. (((fty.0, ft.0), least_operand), tt), (λ at b fb _ _ t ft. (((fb, ft.0), least_operand), tt), tt)),
                         ),
                       ),
                     ),
@@ -310,20 +326,49 @@ implicit_fits : (at : ℕ) (xs : List Ident) (ty : Option TermTree) → IfAny Le
 implicit_fits at xs None h = tt
 implicit_fits at xs (Some ty) h = h
 
+defined_fits : (d : Decl) (b : DefBody) → DeclLeveled d → BodyFits b → CommandLeveled (defined d b)
+defined_fits d (by_value v hs) f g = (f, g.0, g.1)
+defined_fits d (by_alternatives more) f g = (f, g)
+
+unnamed_fits : (at : ℕ) (h : TermTree) (ts : List TermTree) (ops : List (Op × TermTree)) → Operand h → All Operand ts → Chained 0 operand_level ops →
+    GroupLeveled (unnamed at (chain (applied h ts) ops))
+unnamed_fits at h ts ops f g c = let a : Operand (applied h ts) = apply_fits h ts f g in (chained 0 operand_level (applied h ts) ops a.0 a.1 c).0
+
+-- The rows behind a name in a bracket.
+module _ (at : ℕ) (x : Ident) where
+  abbrev first : List (Row Binders)
+  first =
+      on_word words.Colon (λ _. then (symbol.term 0 ∷ symbol.token words.RightBracket ∷ []) (λ ty _. binders_at at Inst (x ∷ []) ty)) ∷
+      on_word words.RightBracket (λ _. then [] (unnamed at (name_term x []))) ∷
+      begins_as written_levels_rows (symbol.arguments ∷ symbol.operators 0 operand_level ∷ symbol.token words.RightBracket ∷ [])
+      (λ ls ts ops _. unnamed at (chain (applied (name_term x ls) ts) ops))
+
+  abbrev argued_bracket : List (Row Binders)
+  argued_bracket = begins_as argument_rows (symbol.operators 0 operand_level ∷ symbol.token words.RightBracket ∷ []) (λ ts ops _. unnamed at (chain (applied (name_term x []) ts) ops))
+
+  abbrev operated_bracket : List (Row Binders)
+  operated_bracket = begins_as (operator_rows 0 operand_level) (symbol.token words.RightBracket ∷ []) (λ ops _. unnamed at (chain (name_term x []) ops))
+
+  first_fit : RowsFit GroupLeveled first
+  first_fit = (
+    λ p ty fty _ _. fty.0,
+    (λ p. (name_fits x []).0, (λ p l _ ls _ ts g ops c _ _. unnamed_fits at (name_term x (l ∷ ls)) ts ops (name_fits x (l ∷ ls)) g c, tt)),
+  )
+
+  argued_bracket_fit : RowsFit GroupLeveled argued_bracket
+  argued_bracket_fit = begins_fit (All Operand) GroupLeveled argument_rows (symbol.operators 0 operand_level ∷ symbol.token words.RightBracket ∷ []) (λ ts ops _. unnamed at (chain (applied (name_term x []) ts) ops))
+      arguments_fit (λ ts g ops c _ _. unnamed_fits at (name_term x []) ts ops (name_fits x []) g c)
+
+  operated_bracket_fit : RowsFit GroupLeveled operated_bracket
+  operated_bracket_fit = begins_fit (Chained 0 operand_level) GroupLeveled (operator_rows 0 operand_level) (symbol.token words.RightBracket ∷ []) (λ ops _. unnamed at (chain (name_term x []) ops))
+      (operators_fit 0 operand_level) (λ ops c _ _. unnamed_fits at (name_term x []) [] ops (name_fits x []) tt c)
+
+  bracket_name_fit : RowsFit GroupLeveled (bracket_name_rows at x)
+  bracket_name_fit =
+      append_fit GroupLeveled (first ++ argued_bracket) operated_bracket (append_fit GroupLeveled first argued_bracket first_fit argued_bracket_fit) operated_bracket_fit
+
 all_fit : (x : Symbol) → RowsFit (Fits x) (rows x)
-all_fit symbol.command = (
-  λ at x _ ls _ bs fbs _ _ ty fty. (fbs, fty.0),
-  (
-    λ at x _ ls _ bs fbs d fd. ((fbs, fd.0), fd.1, fd.2),
-    (
-      λ at x _ ls _ bs fbs _ _ ty fty _ _ v fv hs fhs. ((fbs, fty.0), fv.0, fhs),
-      (
-        λ at x _ ls _ bs fbs ty fty _ _ cs fcs. ((fbs, fty), fcs),
-        (λ at x _. tt, (λ at x _. tt, (λ at x _. tt, (λ at x _ xs _. tt, (λ at x _ xs _. tt, (λ at b fb bs fbs. (fb, fbs), (λ at t ft. ft.0, (λ at t ft. ft.0, tt)))))))),
-      ),
-    ),
-  ),
-)
+all_fit symbol.command = (λ at x _ ls _ bs fbs _ _ ty fty. (fbs, fty.0), (λ at x _ ls _ bs fbs d fd. defined_fits (decl_of at x ls bs d.ty) d.body (fbs, fd.0) fd.1, (λ at x _ ls _ bs fbs _ _ ty fty _ _ v fv hs fhs. ((fbs, fty.0), fv.0, fhs), (λ at x _ ls _ bs fbs ty fty _ _ cs fcs. ((fbs, fty), fcs), (λ at x _ ls _ bs fbs ty fty fs ffs. ((fbs, fty), ffs), (λ at x _ ls _ bs fbs ty fty fs ffs. ((fbs, fty), ffs), (λ at x _ ls _ bs fbs _ _ ty fty _ _ v fv. ((fbs, fty.0), fv.0), (λ at x _. tt, (λ at x _. tt, (λ at x _. tt, (λ at x _ xs _. tt, (λ at x _ xs _. tt, (λ at b fb bs fbs. (fb, fbs), (λ at t ft. ft.0, (λ at t ft. ft.0, (λ at _ _ x _. tt, tt))))))))))))))))
 all_fit (symbol.token w) = (λ at. tt, tt)
 all_fit symbol.arrow_token = (λ o e. tt, tt)
 all_fit symbol.number_token = (λ n. tt, tt)
@@ -336,18 +381,32 @@ all_fit symbol.one_parts = (λ x xs _. tt, tt)
 all_fit symbol.binder_names = (λ x xs _. tt, (λ at xs _. tt, tt))
 all_fit symbol.level_names = (λ at x _ xs _. tt, tt)
 all_fit symbol.more_level_names = (λ at x _ xs _. tt, (λ at. tt, tt))
-all_fit symbol.binder = (λ at x _ xs _ _ _ ty fty _ _. fty.0, (λ at x _ xs _ _ _ ty fty _ _. fty.0, tt))
-all_fit symbol.parameters = (λ at x _ xs _ _ _ ty fty _ _ bs fbs. (fty.0, fbs), (λ at x _ xs _ _ _ ty fty _ _ bs fbs. (fty.0, fbs), tt))
-all_fit symbol.lambda_binder = (λ at x _ xs _ _ _ ty fty _ _. fty.0, (λ at x _ xs _ ty fty. implicit_fits at (x ∷ xs) ty fty, (λ x. tt, (λ at. tt, tt))))
+all_fit symbol.binder = (λ at x _ xs _ _ _ ty fty _ _. fty.0, (λ at x _ xs _ _ _ ty fty _ _. fty.0, (λ at b fb. fb, tt)))
+all_fit symbol.parameters = (λ at x _ xs _ _ _ ty fty _ _ bs fbs. (fty.0, fbs), (λ at x _ xs _ _ _ ty fty _ _ bs fbs. (fty.0, fbs), (λ at b fb bs fbs. (fb, fbs), tt)))
+all_fit symbol.lambda_binder = (λ at x _ xs _ _ _ ty fty _ _. fty.0, (λ at x _ xs _ ty fty. implicit_fits at (x ∷ xs) ty fty, (λ at b fb. fb, (λ x. tt, (λ at. tt, tt)))))
 all_fit symbol.lambda_binders = (
   λ at x _ xs _ _ _ ty fty _ _ bs fbs. (fty.0, fbs),
   (
     λ at x _ xs _ ty fty bs fbs. (implicit_fits at (x ∷ xs) ty fty, fbs),
-    (λ x bs fbs. (tt, fbs), (λ at bs fbs. (tt, fbs), tt)),
+    (λ at b fb bs fbs. (fb, fbs), (λ x bs fbs. (tt, fbs), (λ at bs fbs. (tt, fbs), tt))),
   ),
 )
 all_fit symbol.implicit_end = (λ at ty fty _ _. fty.0, (λ at. tt, tt))
-all_fit symbol.def_rest = (λ at ty fty _ _ v fv hs fhs. (fty.0, fv.0, fhs), (λ at v fv. (tt, fv.0, tt), tt))
+all_fit (symbol.bracket at) = (
+  λ x b fb. fb,
+  begins_fit (Fits (symbol.term 0)) GroupLeveled (term_rows 0) (symbol.token words.RightBracket ∷ []) (λ ty _. unnamed at ty) (terms_fit 0) (λ ty fty _ _. fty.0),
+)
+all_fit (symbol.bracket_name at x) = bracket_name_fit at x
+all_fit symbol.def_rest = (λ at ty fty d fd. (fty.0, fd), (λ at v fv. (tt, (fv.0, tt)), tt))
+all_fit symbol.def_body = (λ at v fv hs fhs. (fv.0, fhs), (λ at p _ _ _ t ft more fmore. (ft.0, fmore), tt))
+all_fit symbol.fields_option = (λ at _ _ f ff fs ffs. (ff, ffs), tt)
+all_fit symbol.field = (λ x xs _ _ _ ty fty. fty.0, tt)
+all_fit symbol.more_fields = (λ at f ff fs ffs. (ff, ffs), (λ at f ff fs ffs. (ff, ffs), (λ at. tt, tt)))
+all_fit symbol.axioms_word = (λ x. tt, tt)
+all_fit symbol.alternatives = (λ at p _ _ _ t ft more fmore. (ft.0, fmore), tt)
+all_fit symbol.pattern = (λ at. tt, (λ x p _. tt, (λ x xs _. tt, tt)))
+all_fit (symbol.pattern_rest x) = (λ o e _ _. tt, (λ y ys _. tt, (λ at ys _. tt, tt)))
+all_fit symbol.numeral_one = (λ at. tt, tt)
 all_fit symbol.type_option = (λ at ty fty. fty.0, tt)
 all_fit symbol.where_option = (λ at. tt, tt)
 all_fit symbol.ctors = (λ at x _ bs fbs ty fty cs fcs. ((fbs, fty), fcs), tt)
@@ -409,6 +468,13 @@ left_out_fits symbol.parameters v e = some_is (All GroupLeveled) [] v e tt
 left_out_fits symbol.lambda_binders v e = some_is (All LambdaLeveled) [] v e tt
 left_out_fits symbol.type_option v e = some_is (IfAny Leveled) None v e tt
 left_out_fits symbol.ctors v e = some_is (All CtorLeveled) [] v e tt
+left_out_fits symbol.fields_option v e = some_is (All FieldLeveled) [] v e tt
+left_out_fits symbol.alternatives v e = some_is (All AlternativeLeveled) [] v e tt
+left_out_fits (symbol.bracket at) v e = cc
+left_out_fits (symbol.bracket_name at x) v e = cc
+left_out_fits symbol.def_body v e = cc
+left_out_fits symbol.field v e = cc
+left_out_fits symbol.more_fields v e = cc
 left_out_fits symbol.helpers v e = some_is (All HelperLeveled) [] v e tt
 left_out_fits symbol.arguments v e = some_is (All Operand) [] v e tt
 left_out_fits (symbol.operators least left) v e = some_is (Chained least left) [] v e tt

@@ -1,17 +1,34 @@
 -- Terms whose operators keep their levels.
 use Rattle.std.specs.Prelude.{ℕ, ◌≤◌, List, [], ◌∷◌, Option, None, Some}
 use Rattle.lf_syntax.specs.Tree.{TermTree, ident, numeral, hole, sorry_term, prop, type_u, sort_u, paren, app, oper, not_term, fun_term, forall_term, let_term, by_term, arrow, TermOption, no_term, some_term, TermTrees, end_terms, term_and, BindersTree, binders, LBinderTree, typed, plain, implicit, LBinderTrees, end_binders, binder_and, ItemTree, block, exact, intro, apply, rfl, assumption_item, rw_item, unfold_item, have_item, induction, cases, injection, sorry_item, ItemTrees, end_items, item_and, RuleTree, rule, RuleTrees, end_rules, rule_and}
-use Rattle.lf_syntax.specs.Levels.{op_level, left_of, right_of, operand_level, not_level}
+use Rattle.lf_text.specs.Operators.{op_level, left_of, right_of}
+use Rattle.lf_syntax.specs.Levels.{operand_level, not_level}
 use Rattle.lf_syntax.specs.declared.term.Binders.{Binders}
 use Rattle.lf_syntax.specs.declared.command.Decl.{Decl}
 use Rattle.lf_syntax.specs.declared.command.Helper.{Helper}
 use Rattle.lf_syntax.specs.declared.command.CtorDecl.{CtorDecl}
+use Rattle.lf_syntax.specs.declared.command.FieldDecl.{FieldDecl}
+use Rattle.lf_syntax.specs.declared.pattern.Alternative.{Alternative}
 use Rattle.lf_syntax.specs.declared.command.Command.{Command}
-use Rattle.lf_syntax.specs.declared.command.Command.TheVariants.{Axiom, Def, Theorem, Inductive, Variable, Check, Reduce}
+use Rattle.lf_syntax.specs.declared.command.Command.TheVariants.{Axiom, Def, Equations, Theorem, Inductive, Structure, Class, Instance, Namespace, Section, End, OpenNames, Universe, Variable, Check, Reduce, PrintAxioms, Bad}
 
 abbrev pub term_level : TermTree → ℕ
 term_level (oper at o l r) = op_level o
-term_level _ = operand_level
+term_level (ident at e x ls) = operand_level
+term_level (numeral n) = operand_level
+term_level (hole at) = operand_level
+term_level (sorry_term at) = operand_level
+term_level (prop at) = operand_level
+term_level (type_u at l) = operand_level
+term_level (sort_u at l) = operand_level
+term_level (paren at t u) = operand_level
+term_level (app at h ts) = operand_level
+term_level (not_term at t) = operand_level
+term_level (fun_term at bs t) = operand_level
+term_level (forall_term at bs t) = operand_level
+term_level (let_term at x u v t) = operand_level
+term_level (by_term at items) = operand_level
+term_level (arrow at b t) = operand_level
 
 -- Each operator has a term of the level that it asks on each side, and each `¬` one behind it; heads and arguments are operands.
 abbrev mutual
@@ -99,12 +116,28 @@ HelperLeveled h = All GroupLeveled h.binders × Leveled h.ty × Leveled h.value
 abbrev pub CtorLeveled : CtorDecl → Type 0
 CtorLeveled c = All GroupLeveled c.binders × IfAny Leveled c.ty
 
+abbrev pub FieldLeveled : FieldDecl → Type 0
+FieldLeveled f = Leveled f.ty
+
+abbrev pub AlternativeLeveled : Alternative → Type 0
+AlternativeLeveled a = Leveled a.term
+
 abbrev pub CommandLeveled : Command → Type 0
 CommandLeveled (Axiom d) = DeclLeveled d
 CommandLeveled (Def d v hs) = DeclLeveled d × Leveled v × All HelperLeveled hs
+CommandLeveled (Equations d more) = DeclLeveled d × All AlternativeLeveled more
 CommandLeveled (Theorem d v hs) = DeclLeveled d × Leveled v × All HelperLeveled hs
 CommandLeveled (Inductive d cs) = DeclLeveled d × All CtorLeveled cs
+CommandLeveled (Structure d fs) = DeclLeveled d × All FieldLeveled fs
+CommandLeveled (Class d fs) = DeclLeveled d × All FieldLeveled fs
+CommandLeveled (Instance d v) = DeclLeveled d × Leveled v
 CommandLeveled (Variable at bs) = All GroupLeveled bs
 CommandLeveled (Check at t) = Leveled t
 CommandLeveled (Reduce at t) = Leveled t
-CommandLeveled _ = Unit {0}
+CommandLeveled (Namespace at x) = Unit {0}
+CommandLeveled (Section at x) = Unit {0}
+CommandLeveled (End at x) = Unit {0}
+CommandLeveled (OpenNames at xs) = Unit {0}
+CommandLeveled (Universe at xs) = Unit {0}
+CommandLeveled (PrintAxioms at x) = Unit {0}
+CommandLeveled (Bad at f) = Unit {0}

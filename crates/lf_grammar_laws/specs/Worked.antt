@@ -1,11 +1,11 @@
 -- Worked texts, each of one command: the answer for its tokens. Places are in bytes.
 use Rattle.std.specs.Prelude.{◌≡◌, ℕ, List, [], ◌∷◌, Option, Some, None, true, false, codes, drop, ◌+◌, zero, suc}
 use Prim.Native.String.{String}
-use Rattle.lf_core.specs.declared.binder.BinderKind.TheVariants.{Explicit, Implicit}
-use Rattle.lf_syntax.specs.declared.piece.Word.TheVariants as words
+use Rattle.lf_name.specs.declared.binder.BinderKind.TheVariants.{Explicit, Implicit}
+use Rattle.lf_text.specs.declared.word.Word.TheVariants as words
 use Rattle.lf_syntax.specs.declared.leaf.Ident.{Ident}
 use Rattle.lf_syntax.specs.declared.leaf.Num.{Num}
-use Rattle.lf_syntax.specs.declared.leaf.Op.TheVariants.{Arrow, Or, And, Eq, Add, Sub, Mul, Mod}
+use Rattle.lf_text.specs.declared.operator.Op.TheVariants.{Arrow, Or, And, Eq, Add, Sub, Mul, Mod}
 use Rattle.lf_syntax.specs.Tree.{level_number, level_name, level_plus, level_max, level_imax, levels_of, TermTree, ident, numeral, hole, sorry_term, prop, type_u, sort_u, paren, no_term, some_term, app, oper, not_term, fun_term, forall_term, let_term, by_term, arrow, binders, plain, typed, implicit, terms_of as terms, binders_of as lambdas, items_of as items, rules_of as rules, block, exact, intro, apply, rfl, assumption_item, rw_item, unfold_item, have_item, induction, cases, injection, sorry_item, rule}
 use Rattle.lf_syntax.specs.declared.term.Binders.{Binders}
 use Rattle.lf_syntax.specs.declared.command.Decl.{Decl}
@@ -72,7 +72,7 @@ abbrev pub no_command_word_text : Text
 no_command_word_text = text "A : Prop" (λ tokens. is_bad (drop 0 tokens))
 
 abbrev pub left_out_command_text : Text
-left_out_command_text = text "#print A" (λ tokens. is_bad (drop 0 tokens))
+left_out_command_text = text "import A" (λ tokens. is_bad (drop 0 tokens))
 
 abbrev pub attribute_in_a_term_text : Text
 attribute_in_a_term_text = text "@[x] def f := 1" (λ tokens. is_bad (drop 0 tokens))

@@ -1,7 +1,7 @@
 //! Laws of the grammar of commands: each public function's contract is one of them, and it does nothing.
 #![tactic(auto)]
 
-ghost use Rattle.lf_grammar_laws.specs.Laws.{OneAnswer, MachineAnswers, Complete, Sound, Completable, StuckIsLocal, OneCommand, OneDocument, MachineDocument, NeverBad, WordsAgree, LevelsKept};
+ghost use Rattle.lf_grammar_laws.specs.Laws.{OneAnswer, MachineAnswers, Complete, Sound, Completable, StuckIsLocal, OneCommand, OneDocument, MachineDocument, NeverBad, LevelsKept, OperatorsBind};
 ghost use Rattle.lf_grammar_laws.specs.Worked.{Worked};
 
 /// A list of tokens is a command with one tree, or bad at one place, or a beginning that ends early: exactly one of these.
@@ -39,9 +39,9 @@ pub fn levels_kept()
     ensures { LevelsKept }
 {}
 
-/// Tokens begin a command for the grammar where they do for the layout.
-pub fn words_agree()
-    ensures { WordsAgree }
+/// The operators have the levels and sides of the table that the law writes out.
+pub fn operators_bind()
+    ensures { OperatorsBind }
 {}
 
 /// The worked texts have the answers that are written beside them.

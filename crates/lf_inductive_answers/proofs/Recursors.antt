@@ -1,10 +1,11 @@
 use Rattle.std.proofs.Common.{refl}
 use Rattle.std.specs.Char.{encode_utf8}
 use Rattle.std.specs.Fmt.{digits}
+use Rattle.lf_print.specs.Mark.{mark_text}
 use Rattle.lf_inductive_answers.specs.Recursors.{Recursors}
 
 pub recursors : Recursors
-unfolding encode_utf8 digits
+unfolding encode_utf8 digits mark_text
 recursors = record {
   nat_constant = refl;
   nat_type = refl;
@@ -41,4 +42,6 @@ recursors = record {
   level_free = refl;
   level_taken = refl;
   levels_taken = refl;
+  two_taken = refl;
+  six_taken = refl;
 }

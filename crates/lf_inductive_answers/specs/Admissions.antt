@@ -1,33 +1,68 @@
 -- Declarations that are admitted: what is added, and what it costs.
 use Rattle.std.specs.Prelude.{◌≡◌, true, false, Option, Some, None, List, [], ◌∷◌}
 use Prim.Native.String.{String}
-use Rattle.lf_core.specs.Recursor.{recursor_of}
-use Rattle.lf_core.specs.Inductive.{declared}
+use Rattle.lf_rules.specs.Recursor.{recursor_of}
+use Rattle.lf_rules.specs.Inductive.{declared_constants}
 use Rattle.lf_core.specs.declared.constant.ConstInfo.{ConstInfo}
 use Rattle.lf_core.specs.declared.constant.ConstKind.TheVariants.{Inductive, Constructor}
 use Rattle.lf_core.specs.declared.constant.Detail.{Detail}
 use Rattle.lf_core.specs.declared.constant.Detail.TheVariants.{Ind, Ctor}
 use Rattle.lf_core.specs.declared.constant.IndDecl.{IndDecl}
 use Rattle.lf_core.specs.Term.{Path, pi}
-use Rattle.lf_env.specs.View.{View}
-use Rattle.lf_env.specs.Run.{Answer, done, out}
-use Rattle.lf_env.specs.Admission.{add_inductive}
-use Rattle.lf_inductive_answers.specs.Words.{text, word, dotted, explicit, type}
-use Rattle.lf_inductive_answers.specs.Declarations.{nat, nat_declaration, list_declaration, eq_declaration, false_declaration, true_declaration, and_declaration, or_declaration, d_declaration, acc_declaration, w_declaration, vec_declaration, exists_declaration, tree_declaration, fan_declaration, sigma_declaration}
-use Rattle.lf_inductive_answers.specs.Elimination.{holds_number, by_field, by_successor, hidden, unit_in_any_sort, two_in_any_sort, two_in_types, of_sort}
+use Rattle.lf_checker.specs.View.{View}
+use Rattle.lf_checker.specs.Run.{Answer, done, out}
+use Rattle.lf_checker.specs.Admission.{add_inductive}
+use Rattle.lf_examples.specs.Words.{text, word, dotted, explicit, type}
+use Rattle.lf_examples.specs.Declarations.{
+  nat,
+  nat_declaration,
+  list_declaration,
+  eq_declaration,
+  false_declaration,
+  true_declaration,
+  and_declaration,
+  or_declaration,
+  d_declaration,
+  acc_declaration,
+  w_declaration,
+  vec_declaration,
+  exists_declaration,
+  tree_declaration,
+  fan_declaration,
+  sigma_declaration,
+}
+use Rattle.lf_examples.specs.Elimination.{holds_number, by_field, by_successor, hidden, unit_in_any_sort, two_in_any_sort, two_in_types, of_sort}
 use Rattle.lf_inductive_answers.specs.Recursors.{nat_recursor}
-use Rattle.lf_inductive_answers.specs.Views.{nothing, with_numbers, with_equality}
+use Rattle.lf_examples.specs.Views.{nothing, with_numbers, with_equality}
 
 -- The numbers, written out.
 
 abbrev pub nat_info : ConstInfo
-nat_info = record { name = word "Nat"; kind = Inductive; levels = []; ty = type; value = None; height = 0; detail = Ind 0 0 (dotted "Nat" "zero" ∷ dotted "Nat" "succ" ∷ []) true }
+nat_info = record {
+  name = word "Nat";
+  kind = Inductive;
+  levels = [];
+  ty = type;
+  value = None;
+  height = 0;
+  detail = Ind 0 0
+      (dotted "Nat" "zero" ∷ dotted "Nat" "succ" ∷ []) true;
+}
 
 abbrev pub zero_info : ConstInfo
 zero_info = record { name = dotted "Nat" "zero"; kind = Constructor; levels = []; ty = nat; value = None; height = 0; detail = Ctor (word "Nat") 0 0 0 }
 
 abbrev pub succ_info : ConstInfo
-succ_info = record { name = dotted "Nat" "succ"; kind = Constructor; levels = []; ty = pi (explicit "n") nat nat; value = None; height = 0; detail = Ctor (word "Nat") 1 0 1 }
+succ_info = record {
+  name = dotted "Nat" "succ";
+  kind = Constructor;
+  levels = [];
+  ty = pi (explicit "n") nat nat;
+  value = None;
+  height = 0;
+  detail = Ctor
+      (word "Nat") 1 0 1;
+}
 
 -- What is added, with many units.
 abbrev pub given : {A : Type 0} → Answer A → Option A
@@ -70,13 +105,13 @@ pub record Admissions : Type 0 where
   pub numbers : add_inductive nothing 512 nat_declaration 18 ≡ done (nat_info ∷ zero_info ∷ succ_info ∷ nat_recursor ∷ []) 0
   pub numbers_too_few : add_inductive nothing 512 nat_declaration 17 ≡ out
   -- 2 units for the type and 4 for `intro`, the nodes of `Prop` being 2
-  pub truth : add_inductive nothing 512 true_declaration 6 ≡ done (declared true_declaration true) 0
+  pub truth : add_inductive nothing 512 true_declaration 6 ≡ done (declared_constants true_declaration true) 0
   pub truth_too_few : add_inductive nothing 512 true_declaration 5 ≡ out
   -- 17 units for the type, 12 and 9 for the parameters that are opened, 9 and 7 for the fields, 25 for the end
-  pub conjunction : add_inductive nothing 512 and_declaration 79 ≡ done (declared and_declaration true) 0
+  pub conjunction : add_inductive nothing 512 and_declaration 79 ≡ done (declared_constants and_declaration true) 0
   pub conjunction_too_few : add_inductive nothing 512 and_declaration 78 ≡ out
   -- no call in a call is made for the numbers
-  pub nested_enough : given (add_inductive nothing 1 nat_declaration 100000) ≡ Some (declared nat_declaration true)
+  pub nested_enough : given (add_inductive nothing 1 nat_declaration 100000) ≡ Some (declared_constants nat_declaration true)
   pub nested_too_deep : add_inductive nothing 0 nat_declaration 100000 ≡ out
   -- the type, its constructors and the recursor, in this order; counts of parameters, indices and fields
   pub names_of_lists : names_added nothing list_declaration ≡ Some (dotted "Demo" "List" ∷ in_lists "nil" ∷ in_lists "cons" ∷ in_lists "rec" ∷ [])
@@ -88,28 +123,28 @@ pub record Admissions : Type 0 where
   pub details_of_disjunction : details_added nothing or_declaration
       ≡ Some (Ind 2 0 (dotted "Or" "inl" ∷ dotted "Or" "inr" ∷ []) false ∷ Ctor (word "Or") 0 2 1 ∷ Ctor (word "Or") 1 2 1 ∷ [])
   -- a recursor of depth 1,024 is given, and a deeper one isn't
-  pub recursor_deep : added nothing (of_sort 1019) ≡ Some (declared (of_sort 1019) false)
+  pub recursor_deep : added nothing (of_sort 1019) ≡ Some (declared_constants (of_sort 1019) false)
   pub recursor_too_deep : add_inductive nothing 512 (of_sort 1020) 100000 ≡ out
   -- types eliminate into every sort
-  pub lists : added nothing list_declaration ≡ Some (declared list_declaration true)
-  pub trees : added with_numbers tree_declaration ≡ Some (declared tree_declaration true)
-  pub families : added nothing w_declaration ≡ Some (declared w_declaration true)
-  pub fans : added with_numbers fan_declaration ≡ Some (declared fan_declaration true)
-  pub vectors : added with_numbers vec_declaration ≡ Some (declared vec_declaration true)
-  pub pairs : added nothing sigma_declaration ≡ Some (declared sigma_declaration true)
-  pub dependent_field : added with_equality d_declaration ≡ Some (declared d_declaration true)
-  pub never_a_proposition : added nothing two_in_types ≡ Some (declared two_in_types true)
+  pub lists : added nothing list_declaration ≡ Some (declared_constants list_declaration true)
+  pub trees : added with_numbers tree_declaration ≡ Some (declared_constants tree_declaration true)
+  pub families : added nothing w_declaration ≡ Some (declared_constants w_declaration true)
+  pub fans : added with_numbers fan_declaration ≡ Some (declared_constants fan_declaration true)
+  pub vectors : added with_numbers vec_declaration ≡ Some (declared_constants vec_declaration true)
+  pub pairs : added nothing sigma_declaration ≡ Some (declared_constants sigma_declaration true)
+  pub dependent_field : added with_equality d_declaration ≡ Some (declared_constants d_declaration true)
+  pub never_a_proposition : added nothing two_in_types ≡ Some (declared_constants two_in_types true)
   -- so do propositions without constructors, or with one whose fields are proofs or are indices
-  pub falsity : added nothing false_declaration ≡ Some (declared false_declaration true)
-  pub equality : added nothing eq_declaration ≡ Some (declared eq_declaration true)
-  pub access : added nothing acc_declaration ≡ Some (declared acc_declaration true)
-  pub field_is_index : added with_numbers by_field ≡ Some (declared by_field true)
-  pub maybe_a_proposition : added nothing unit_in_any_sort ≡ Some (declared unit_in_any_sort true)
+  pub falsity : added nothing false_declaration ≡ Some (declared_constants false_declaration true)
+  pub equality : added nothing eq_declaration ≡ Some (declared_constants eq_declaration true)
+  pub access : added nothing acc_declaration ≡ Some (declared_constants acc_declaration true)
+  pub field_is_index : added with_numbers by_field ≡ Some (declared_constants by_field true)
+  pub maybe_a_proposition : added nothing unit_in_any_sort ≡ Some (declared_constants unit_in_any_sort true)
   -- and others into `Prop` alone
-  pub disjunction : added nothing or_declaration ≡ Some (declared or_declaration false)
-  pub existence : added nothing exists_declaration ≡ Some (declared exists_declaration false)
-  pub number_held : added with_numbers holds_number ≡ Some (declared holds_number false)
-  pub field_in_index : added with_numbers by_successor ≡ Some (declared by_successor false)
-  pub field_hidden_in_index : added with_numbers hidden ≡ Some (declared hidden false)
+  pub disjunction : added nothing or_declaration ≡ Some (declared_constants or_declaration false)
+  pub existence : added nothing exists_declaration ≡ Some (declared_constants exists_declaration false)
+  pub number_held : added with_numbers holds_number ≡ Some (declared_constants holds_number false)
+  pub field_in_index : added with_numbers by_successor ≡ Some (declared_constants by_successor false)
+  pub field_hidden_in_index : added with_numbers hidden ≡ Some (declared_constants hidden false)
   pub hidden_has_no_motive_level : (recursor_of hidden false).levels ≡ []
-  pub two_maybe_propositions : added nothing two_in_any_sort ≡ Some (declared two_in_any_sort false)
+  pub two_maybe_propositions : added nothing two_in_any_sort ≡ Some (declared_constants two_in_any_sort false)

@@ -2,12 +2,12 @@
 -- checker accepts a proof of 0 = 1.
 use Rattle.std.specs.Prelude.{◌≡◌, Some, [], ◌∷◌}
 use Rattle.lf_core.specs.Term.{Universe, level_zero, Term, bound, const, app, lam, pi, lit}
-use Rattle.lf_env.specs.Checker.{whnf, infer}
-use Rattle.lf_inductive_answers.specs.Words.{word, dotted, explicit, two, three, one, prop, at}
-use Rattle.lf_inductive_answers.specs.Declarations.{nat, nat_zero}
-use Rattle.lf_inductive_answers.specs.Elimination.{hidden}
-use Rattle.lf_inductive_answers.specs.Refused.{other_levels}
-use Rattle.lf_inductive_answers.specs.Views.{with_equality_and}
+use Rattle.lf_checker.specs.Checker.{whnf, infer}
+use Rattle.lf_examples.specs.Words.{word, dotted, explicit, two, three, one, prop, at}
+use Rattle.lf_examples.specs.Declarations.{nat, nat_zero}
+use Rattle.lf_examples.specs.Elimination.{hidden}
+use Rattle.lf_examples.specs.Refused.{other_levels}
+use Rattle.lf_examples.specs.Views.{with_equality_and}
 use Rattle.lf_inductive_answers.specs.Admissions.{given}
 
 abbrev pub equal_at : Universe → Term → Term → Term → Term
@@ -27,7 +27,8 @@ nat_as_proposition =
     let M : Term = lam (explicit "t") (t_at level_zero) prop in
     let base : Term = lam (explicit "A") prop (bound 0) in
     let up : Term = lam (explicit "x") (t_at one) (lam (explicit "ih") prop (bound 0)) in
-    two (two (const (dotted "T" "rec") (one ∷ level_zero ∷ [])) M base) up (app (const (dotted "T" "up") (level_zero ∷ [])) (app (const (dotted "T" "base") (one ∷ [])) nat))
+    two (two (const (dotted "T" "rec") (one ∷ level_zero ∷ [])) M base) up
+    (app (const (dotted "T" "up") (level_zero ∷ [])) (app (const (dotted "T" "base") (one ∷ [])) nat))
 
 -- ∀ (p : Prop) (a b : p), a = b, with its proof
 abbrev pub irrelevance : Term
@@ -50,7 +51,8 @@ number_of t =
 
 -- ∀ (a b : P Nat.zero), number a = number b, with its proof
 abbrev pub same_number : Term
-same_number = pi (explicit "a") (app (at "P") nat_zero) (pi (explicit "b") (app (at "P") nat_zero) (equal_at one nat (number_of (bound 1)) (number_of (bound 0))))
+same_number = pi (explicit "a") (app (at "P") nat_zero)
+    (pi (explicit "b") (app (at "P") nat_zero) (equal_at one nat (number_of (bound 1)) (number_of (bound 0))))
 
 abbrev pub same_number_proof : Term
 same_number_proof = lam (explicit "a") (app (at "P") nat_zero) (lam (explicit "b") (app (at "P") nat_zero) (refl_at one nat (number_of (bound 1))))
@@ -58,7 +60,8 @@ same_number_proof = lam (explicit "a") (app (at "P") nat_zero) (lam (explicit "b
 -- at the proofs that hold 0 and 1, where a proof of 0 = 1 is asked for
 abbrev pub uncovered : Term
 uncovered =
-    let held : Term = app (lam (explicit "h") same_number (two (bound 0) (app (const (dotted "P" "mk") []) (lit 0)) (app (const (dotted "P" "mk") []) (lit 1)))) same_number_proof in
+    let held : Term = app (lam (explicit "h") same_number (two (bound 0) (app (const (dotted "P" "mk") []) (lit 0)) (app (const (dotted "P" "mk") []) (lit 1))))
+    same_number_proof in
     app (lam (explicit "z") (equal_at one nat (lit 0) (lit 1)) (lit 7)) held
 
 pub record LeftOut : Type 0 where

@@ -1,9 +1,3 @@
-pub mod Words
-pub mod Printed
-pub mod Declarations
-pub mod Elimination
-pub mod Refused
-pub mod Views
 pub mod Recursors
 pub mod Admissions
 pub mod Refusals
@@ -11,3 +5,4 @@ pub mod Needs
 pub mod Reductions
 pub mod Typed
 pub mod LeftOut
+pub mod Structures

@@ -4,11 +4,11 @@ use Rattle.lf_core.specs.Term.{const, pi}
 use Rattle.lf_core.specs.declared.constant.IndDecl.{IndDecl}
 use Rattle.lf_core.specs.declared.constant.TaskKey.{TaskKey}
 use Rattle.lf_core.specs.declared.constant.TaskKey.TheVariants.{Body, Real}
-use Rattle.lf_env.specs.Run.{need}
-use Rattle.lf_env.specs.Admission.{add_inductive}
-use Rattle.lf_inductive_answers.specs.Words.{dotted, explicit, at}
-use Rattle.lf_inductive_answers.specs.Refused.{with_mk, with_names, empty_of_name}
-use Rattle.lf_inductive_answers.specs.Views.{document}
+use Rattle.lf_checker.specs.Run.{need}
+use Rattle.lf_checker.specs.Admission.{add_inductive}
+use Rattle.lf_examples.specs.Words.{dotted, explicit, at}
+use Rattle.lf_examples.specs.Refused.{with_mk, with_names, empty_of_name}
+use Rattle.lf_examples.specs.Views.{document}
 
 abbrev pub Waits : IndDecl → TaskKey → Type 0
 Waits d k = add_inductive document 512 d 100000 ≡ need k

@@ -1,19 +1,35 @@
 -- Weak head and normal forms by the rules that declarations give, and by those alone.
 use Rattle.std.specs.Prelude.{◌≡◌, true, Option, Some, [], ◌∷◌, ◌++◌}
 use Rattle.lf_core.specs.Term.{level_zero, Term, bound, free, const, app, lam, lit}
-use Rattle.lf_core.specs.Environment.{Context}
-use Rattle.lf_core.specs.Inductive.{declared}
-use Rattle.lf_env.specs.View.{View, base_view}
-use Rattle.lf_env.specs.Run.{done, out}
-use Rattle.lf_env.specs.Checker.{whnf, normalize}
+use Rattle.lf_rules.specs.Environment.{Context}
+use Rattle.lf_rules.specs.Inductive.{declared_constants}
+use Rattle.lf_checker.specs.View.{View, base_view}
+use Rattle.lf_checker.specs.Run.{done, out}
+use Rattle.lf_checker.specs.Checker.{whnf, normalize}
 use Prim.Native.String.{String}
-use Rattle.lf_inductive_answers.specs.Words.{text, word, dotted, explicit, two, three, one, prop, type, at}
-use Rattle.lf_inductive_answers.specs.Declarations.{nat, nat_zero, nat_succ, nat_declaration, list_declaration, eq_declaration, true_declaration, and_declaration, acc_declaration, w_declaration}
-use Rattle.lf_inductive_answers.specs.Elimination.{unit_in_any_sort}
+use Rattle.lf_examples.specs.Words.{text, word, dotted, explicit, two, three, one, prop, type, at}
+use Rattle.lf_examples.specs.Declarations.{
+  nat,
+  nat_zero,
+  nat_succ,
+  nat_declaration,
+  list_declaration,
+  eq_declaration,
+  true_declaration,
+  and_declaration,
+  acc_declaration,
+  w_declaration,
+}
+use Rattle.lf_examples.specs.Elimination.{unit_in_any_sort}
 use Rattle.lf_inductive_answers.specs.Admissions.{given}
 
 abbrev pub V : View
-V = base_view (declared nat_declaration true ++ (declared eq_declaration true ++ (declared list_declaration true ++ (declared true_declaration true ++ (declared and_declaration true ++ (declared acc_declaration true ++ (declared w_declaration true ++ declared unit_in_any_sort true)))))))
+V = base_view (declared_constants nat_declaration true ++
+    (declared_constants eq_declaration true ++
+    (declared_constants list_declaration true ++
+    (declared_constants true_declaration true ++
+    (declared_constants and_declaration true ++
+    (declared_constants acc_declaration true ++ (declared_constants w_declaration true ++ declared_constants unit_in_any_sort true)))))))
 
 abbrev pub reduced : Context → Term → Option Term
 reduced C t = given (whnf V 512 C t 100000)
@@ -74,8 +90,10 @@ cons x xs = three (list_word "cons") nat x xs
 abbrev pub length_of : Term → Term
 length_of xs =
     let nil_case : Term = lit 0 in
-    let cons_case : Term = lam (explicit "x") nat (lam (explicit "xs") (app (const (dotted "Demo" "List") (level_zero ∷ [])) nat) (lam (explicit "n") nat (app nat_succ (bound 0)))) in
-    app (two (two (const (text "Demo" ∷ text "List" ∷ text "rec" ∷ []) (one ∷ level_zero ∷ [])) nat (lam (explicit "xs") (app (const (dotted "Demo" "List") (level_zero ∷ [])) nat) nat)) nil_case cons_case) xs
+    let cons_case : Term = lam (explicit "x") nat
+    (lam (explicit "xs") (app (const (dotted "Demo" "List") (level_zero ∷ [])) nat) (lam (explicit "n") nat (app nat_succ (bound 0)))) in
+    app (two (two (const (text "Demo" ∷ text "List" ∷ text "rec" ∷ []) (one ∷ level_zero ∷ [])) nat
+    (lam (explicit "xs") (app (const (dotted "Demo" "List") (level_zero ∷ [])) nat) nat)) nil_case cons_case) xs
 
 -- ---- Others.
 
@@ -139,8 +157,19 @@ pub record Reductions : Type 0 where
   -- the length of a list of two numbers
   pub list_length : normal (length_of (cons (lit 5) (cons (lit 6) (app (list_word "nil") nat)))) ≡ Some (lit 2)
   -- the left of two proofs
-  pub left_proof : reduced (prop ∷ prop ∷ free 0 ∷ free 1 ∷ []) (left_of (free 0) (free 1) (two (two (const (dotted "And" "intro") []) (free 0) (free 1)) (free 2) (free 3))) ≡ Some (free 2)
+  pub left_proof : reduced (prop ∷ prop ∷ free 0 ∷ free 1 ∷ [])
+      (left_of (free 0) (free 1) (two (two (const (dotted "And" "intro") []) (free 0) (free 1)) (free 2) (free 3))) ≡ Some (free 2)
   -- recursive calls under `fun`
   pub access : reduced [] (acc_rec (free 4) (acc_intro (free 4) (free 5)))
-      ≡ Some (three (free 3) (free 4) (free 5) (lam (explicit "y") (free 0) (lam (explicit "a") (two (free 1) (bound 0) (free 4)) (acc_rec (bound 1) (two (free 5) (bound 1) (bound 0))))))
-  pub tree : reduced [] (w_rec (w_sup (free 4) (free 5))) ≡ Some (three (free 3) (free 4) (free 5) (lam (explicit "a") (app (free 1) (free 4)) (w_rec (app (free 5) (bound 0)))))
+      ≡ Some (three (free 3) (free 4) (free 5) (lam (explicit "y") (free 0)
+      (lam (explicit "a") (two (free 1) (bound 0) (free 4)) (acc_rec (bound 1) (two (free 5) (bound 1) (bound 0))))))
+  pub tree : reduced [] (w_rec (w_sup (free 4) (free 5))) ≡ Some
+      (three (free 3) (free 4) (free 5) (lam (explicit "a") (app (free 1) (free 4)) (w_rec (app (free 5) (bound 0)))))
+  -- the greatest literal is a successor
+  pub at_greatest_literal : whnf V 512 [] (on (lit 340282366920938463463374607431768211455)) 143
+      ≡ done (two (free 2) (lit 340282366920938463463374607431768211454) (on (lit 340282366920938463463374607431768211454))) 0
+  -- the call and one for the proof, 4 for the two types and one to compare them, and 15 + 5 + 1 for the rule
+  pub any_truth_units : whnf V 512 (at "True" ∷ []) (true_rec (free 0)) 27 ≡ done (free 8) 0
+  -- where the constructor has fields no type is asked for
+  pub any_conjunction : whnf V 512 (prop ∷ prop ∷ two (at "And") (free 0) (free 1) ∷ []) (left_of (free 0) (free 1) (free 2)) 2
+      ≡ done (left_of (free 0) (free 1) (free 2)) 0

@@ -7,6 +7,7 @@ ghost use Rattle.lf_inductive_answers.specs.Needs.{Needs};
 ghost use Rattle.lf_inductive_answers.specs.Recursors.{Recursors};
 ghost use Rattle.lf_inductive_answers.specs.Reductions.{Reductions};
 ghost use Rattle.lf_inductive_answers.specs.Refusals.{Refusals};
+ghost use Rattle.lf_inductive_answers.specs.Structures.{Structures};
 ghost use Rattle.lf_inductive_answers.specs.Typed.{Typed};
 
 /// Recursors that are known from elsewhere: their types as text, and their rules.
@@ -42,4 +43,9 @@ pub fn recursors_are_typed()
 /// What the checker would accept if two conditions of admission were left out.
 pub fn conditions_are_needed()
     ensures { LeftOut }
+{}
+
+/// Projections and eta for structures: what is answered, and at what cost.
+pub fn projections_of_known_structures()
+    ensures { Structures }
 {}

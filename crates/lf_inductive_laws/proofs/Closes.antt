@@ -2,8 +2,8 @@
 use Rattle.std.proofs.Common.{◌≡◌, ℕ, zero, suc, List, [], ◌∷◌, length, subst, Some, slice_get}
 use Rattle.lf_core.specs.Term.{Term}
 use Rattle.lf_core.specs.Scope.{Scoped}
-use Rattle.lf_core.specs.Environment.{Environment}
-use Rattle.lf_core.specs.Derived.{Derived}
+use Rattle.lf_rules.specs.Environment.{Environment}
+use Rattle.lf_rules.specs.Derived.{Derived}
 use Rattle.lf_core.specs.declared.constant.ConstInfo.{ConstInfo}
 use Rattle.lf_core.specs.declared.constant.Detail.{Detail}
 use Rattle.lf_core.specs.declared.constant.Detail.TheVariants.{Plain, Ind, Ctor, Rec}

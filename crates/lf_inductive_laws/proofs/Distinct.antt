@@ -1,9 +1,9 @@
 -- Two constants of a derived environment that have one name are one.
 use Rattle.std.proofs.Common.{◌≡◌, ◌⊎◌, inl, inr, List, [], ◌∷◌, ◌++◌, append_assoc, append-nil, sym, ap, subst, ◌∙◌, Contains}
 use Rattle.std.proofs.lemmas.List.Elements.{Contains-push_cases}
-use Rattle.lf_core.specs.Environment.{Environment, Fresh}
-use Rattle.lf_core.specs.Inductive.{declared}
-use Rattle.lf_core.specs.Derived.{AllFresh, Derived, empty, with_axiom, with_value, with_inductive}
+use Rattle.lf_rules.specs.Environment.{Environment, Fresh}
+use Rattle.lf_rules.specs.Inductive.{declared_constants}
+use Rattle.lf_rules.specs.Derived.{AllFresh, Derived, empty, with_axiom, with_value, with_inductive}
 use Rattle.lf_core.specs.declared.constant.ConstInfo.{ConstInfo}
 use Rattle.lf_inductive_laws.proofs.Contained.{none_contained}
 
@@ -27,4 +27,4 @@ pub derived_is_distinct : (E : Environment) → Derived E → Distinct E
 derived_is_distinct E empty = λ c d v w q. absurd (none_contained c v)
 derived_is_distinct E (with_axiom {E = F} c h s k n) = one_more F c (derived_is_distinct F h) s.fresh
 derived_is_distinct E (with_value {E = F} c v h s k q t) = one_more F c (derived_is_distinct F h) s.fresh
-derived_is_distinct E (with_inductive {E = F} d large h i) = several_more F (declared d large) (derived_is_distinct F h) i.fresh
+derived_is_distinct E (with_inductive {E = F} d large h i) = several_more F (declared_constants d large) (derived_is_distinct F h) i.fresh

@@ -1,12 +1,52 @@
 -- A constructor's type is pis over parameters and fields, and ends in its type at all parameters and indices.
-use Rattle.std.proofs.Common.{◌≡◌, ℕ, zero, suc, ◌+◌, ◌-◌, ◌≤◌, nat_eq, if◌then◌else◌, Bool, List, [], ◌∷◌, ◌++◌, append-nil, length, length-append, refl, sym, ap, subst, ◌∙◌, arith, zero-le, Some, slice_get}
-use Rattle.lf_core.specs.Term.{Path, Universe, Term, bound, free, const, app, lam, pi, letin}
+use Rattle.std.proofs.Common.{
+  ◌≡◌,
+  ℕ,
+  zero,
+  suc,
+  ◌+◌,
+  ◌-◌,
+  ◌≤◌,
+  nat_eq,
+  if◌then◌else◌,
+  Bool,
+  List,
+  [],
+  ◌∷◌,
+  ◌++◌,
+  append-nil,
+  length,
+  length-append,
+  refl,
+  sym,
+  ap,
+  subst,
+  ◌∙◌,
+  arith,
+  zero-le,
+  Some,
+  slice_get,
+}
+use Rattle.lf_core.specs.Term.{Path, Universe, Term, bound, free, const, app, lam, pi, letin, proj}
 use Rattle.lf_core.specs.Substitution.{raise, instantiate_at, instantiate}
 use Rattle.lf_core.specs.Spine.{apply, head_of, arguments_before, arguments_of}
-use Rattle.lf_core.specs.Environment.{Environment, Context, opened}
-use Rattle.lf_core.specs.Telescope.{Telescope, variables, Opened, open_pis, pi_count}
-use Rattle.lf_core.specs.Recursor.{Family, self}
-use Rattle.lf_core.specs.Inductive.{AtIndices, Fields, end, field, Constructs, fields, parameter, ConstructorRight, ConstructorsRight, own_family, with_type, Admitted}
+use Rattle.lf_rules.specs.Environment.{Environment, Context, opened}
+use Rattle.lf_rules.specs.Telescope.{Telescope, variables, Opened, open_pis, pi_count}
+use Rattle.lf_rules.specs.Recursor.{Family, self}
+use Rattle.lf_rules.specs.Inductive.{
+  AtIndices,
+  Fields,
+  end,
+  field,
+  Constructs,
+  fields,
+  parameter,
+  ConstructorRight,
+  ConstructorsRight,
+  own_family,
+  with_type,
+  Admitted,
+}
 use Rattle.lf_core.specs.declared.constant.CtorInfo.{CtorInfo}
 use Rattle.lf_core.specs.declared.constant.IndDecl.{IndDecl}
 use Rattle.lf_judgment_laws.proofs.Variables.{by_eq, by_lt, apply-append, rebuilt}
@@ -16,7 +56,7 @@ use Rattle.lf_inductive_laws.proofs.Right.{some_is, no_value}
 
 -- ---- A constant at arguments, told by its head and by how many arguments there are.
 
-head_of-apply : (f : Term) (xs : List Term) → head_of (apply f xs) ≡ head_of f
+pub head_of-apply : (f : Term) (xs : List Term) → head_of (apply f xs) ≡ head_of f
 head_of-apply f [] = refl
 head_of-apply f (x ∷ xs) = head_of-apply (app f x) xs
 
@@ -37,9 +77,11 @@ head_back d k T ls (app f a) = λ e. head_back d k T ls f e
 head_back d k T ls (lam x A b) = λ e. cc
 head_back d k T ls (pi x A b) = λ e. cc
 head_back d k T ls (letin x A v b) = λ e. cc
+head_back d k T ls (proj s i t) = λ e. cc
 head_back d k T ls _ = λ e. e
 
-arguments_back : (d k : ℕ) (t : Term) (xs ys : List Term) → length xs ≡ length ys → length (arguments_before (instantiate_at d t (free k)) xs) ≡ length (arguments_before t ys)
+arguments_back : (d k : ℕ) (t : Term) (xs ys : List Term) → length xs ≡ length ys
+    → length (arguments_before (instantiate_at d t (free k)) xs) ≡ length (arguments_before t ys)
 arguments_back d k (bound i) xs ys h =
     by_lt (λ r. length (arguments_before r xs) ≡ length ys) i d (bound i) (if nat_eq i d then raise 0 d (free k) else bound (i - 1)) (λ q. h) λ q.
     by_eq (λ r. length (arguments_before r xs) ≡ length ys) i d (free k) (bound (i - 1)) (λ w. h) (λ w. h)
@@ -83,18 +125,22 @@ at_indices_end f t is a =
 
 -- One pi more, whose body is opened.
 pi_ends : (f : Family) (C : Context) (B : Term) → EndsIn f.name (pi_count (opened C B)) (whole f) (opened C B) → EndsIn f.name (pi_count B) (whole f) B
-pi_ends f C B h = ends_back f.name (pi_count B) (whole f) 0 (length C) B (subst (λ n. EndsIn f.name n (whole f) (opened C B)) (pi_count-instantiate_at 0 (length C) B) h)
+pi_ends f C B h = ends_back f.name (pi_count B) (whole f) 0 (length C) B
+    (subst (λ n. EndsIn f.name n (whole f) (opened C B)) (pi_count-instantiate_at 0 (length C) B) h)
 
-pub fields_end : {E : Environment} {f : Family} {r : Universe} {C : Context} {t : Term} {ls : List Universe} {is : List Term} → Fields E f r C t ls is → EndsIn f.name (pi_count t) (whole f) t
+pub fields_end : {E : Environment} {f : Family} {r : Universe} {C : Context} {t : Term} {ls : List Universe} {is : List Term} → Fields E f r C t ls is
+    → EndsIn f.name (pi_count t) (whole f) t
 fields_end {f = f} {t = t} {is = is} (end l a s) = at_indices_end f t is a
 fields_end {f = f} {C = C} (field {B = B} l s p u h) = pi_ends f C B (fields_end h)
 
-pub constructs_end : {E : Environment} {f : Family} {r : Universe} {xs : Telescope} {C : Context} {t : Term} {ls : List Universe} {is : List Term} → Constructs E f r xs C t ls is → EndsIn f.name (pi_count t) (whole f) t
+pub constructs_end : {E : Environment} {f : Family} {r : Universe} {xs : Telescope} {C : Context} {t : Term} {ls : List Universe} {is : List Term}
+    → Constructs E f r xs C t ls is → EndsIn f.name (pi_count t) (whole f) t
 constructs_end (fields h) = fields_end h
 constructs_end {f = f} {C = C} (parameter {B = B} e h) = pi_ends f C B (constructs_end h)
 
 -- It has as many pis as there are parameters, at least.
-pub constructs_params : {E : Environment} {f : Family} {r : Universe} {xs : Telescope} {C : Context} {t : Term} {ls : List Universe} {is : List Term} → Constructs E f r xs C t ls is → length xs ≤ pi_count t
+pub constructs_params : {E : Environment} {f : Family} {r : Universe} {xs : Telescope} {C : Context} {t : Term} {ls : List Universe} {is : List Term}
+    → Constructs E f r xs C t ls is → length xs ≤ pi_count t
 constructs_params (fields h) = zero-le
 constructs_params {C = C} (parameter {xs = xs} {B = B} e h) =
     let l : length xs ≤ pi_count (opened C B) = constructs_params h in
@@ -117,17 +163,21 @@ own_params d h = length-opened 0 d.params d.ty h
 pub own_whole : (d : IndDecl) → d.params ≤ pi_count d.ty → whole (own_family d) ≡ d.params + (pi_count d.ty - d.params)
 own_whole d h = omega (arith, pi_count-opened 0 d.params d.ty)
 
-pub constructor_ends : (E : Environment) (d : IndDecl) (r : Universe) (c : CtorInfo) → d.params ≤ pi_count d.ty → ConstructorRight E (own_family d) r c → EndsIn d.name (d.params + (pi_count c.ty - d.params)) (d.params + (pi_count d.ty - d.params)) c.ty
+pub constructor_ends : (E : Environment) (d : IndDecl) (r : Universe) (c : CtorInfo) → d.params ≤ pi_count d.ty → ConstructorRight E (own_family d) r c
+    → EndsIn d.name (d.params + (pi_count c.ty - d.params)) (d.params + (pi_count d.ty - d.params)) c.ty
 constructor_ends E d r c h q =
     let l : length (own_family d).params ≤ pi_count c.ty = constructs_params q.constructs in
     let e : pi_count c.ty ≡ d.params + (pi_count c.ty - d.params) = omega (arith, own_params d h) in
     subst (λ n. EndsIn d.name n (d.params + (pi_count d.ty - d.params)) c.ty) e
     (subst (λ m. EndsIn d.name (pi_count c.ty) m c.ty) (own_whole d h) (constructs_end q.constructs))
 
-pub one_of_right : (E : Environment) (f : Family) (r : Universe) (cs : List CtorInfo) → ConstructorsRight E f r cs → (k : ℕ) (c : CtorInfo) → slice_get cs k ≡ Some c → ConstructorRight E f r c
+pub one_of_right : (E : Environment) (f : Family) (r : Universe) (cs : List CtorInfo) → ConstructorsRight E f r cs → (k : ℕ) (c : CtorInfo)
+    → slice_get cs k ≡ Some c → ConstructorRight E f r c
 one_of_right E f r [] h k c e = absurd (no_value e)
 one_of_right E f r (x ∷ cs) h zero c e = subst (ConstructorRight E f r) (some_is e) h.0
 one_of_right E f r (x ∷ cs) h (suc k) c e = one_of_right E f r cs h.1 k c e
 
-pub admitted_ends : (E : Environment) (d : IndDecl) (large : Bool) → Admitted E d large → (index : ℕ) (c : CtorInfo) → slice_get d.ctors index ≡ Some c → EndsIn d.name (d.params + (pi_count c.ty - d.params)) (d.params + (pi_count d.ty - d.params)) c.ty
-admitted_ends E d large a index c e = constructor_ends (with_type E d) d a.result c a.params (one_of_right (with_type E d) (own_family d) a.result d.ctors a.constructors index c e)
+pub admitted_ends : (E : Environment) (d : IndDecl) (large : Bool) → Admitted E d large → (index : ℕ) (c : CtorInfo) → slice_get d.ctors index ≡ Some c
+    → EndsIn d.name (d.params + (pi_count c.ty - d.params)) (d.params + (pi_count d.ty - d.params)) c.ty
+admitted_ends E d large a index c e = constructor_ends (with_type E d) d a.result c a.params
+    (one_of_right (with_type E d) (own_family d) a.result d.ctors a.constructors index c e)

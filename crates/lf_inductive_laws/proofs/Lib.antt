@@ -9,3 +9,6 @@ pub mod Closes
 pub mod Ends
 pub mod Distinct
 pub mod Declared
+pub mod Growing
+pub mod Fields
+pub mod Ordinary

@@ -1,9 +1,29 @@
 -- Where a term lies: its variables, its constants and the parameters of its levels at once, and what substitution does to that.
 use Rattle.std.proofs.Common.{ℕ, zero, suc, ◌-◌, ◌≤◌, ◌<◌, nat_eq, if◌then◌else◌, List, [], ◌∷◌, length, arith, unwrap_or, slice_get, map}
-use Rattle.lf_core.specs.Term.{Universe, level_zero, level_succ, level_max, level_imax, level_param, level_meta, Term, bound, free, meta, sort, const, app, lam, pi, letin, lit}
+use Rattle.lf_core.specs.Term.{
+  Universe,
+  level_zero,
+  level_succ,
+  level_max,
+  level_imax,
+  level_param,
+  level_meta,
+  Term,
+  bound,
+  free,
+  meta,
+  sort,
+  const,
+  app,
+  lam,
+  pi,
+  letin,
+  lit,
+  proj,
+}
 use Rattle.lf_core.specs.Substitution.{raise, instantiate_at, abstract_at, level_substitute, level_instantiate}
 use Rattle.lf_core.specs.Scope.{Scoped}
-use Rattle.lf_core.specs.Environment.{Environment, Declared, nat, NamesDeclared, ParametersBelow, AllParametersBelow, LevelsBelow}
+use Rattle.lf_rules.specs.Environment.{Environment, Declared, nat, NamesDeclared, ParametersBelow, AllParametersBelow, LevelsBelow}
 use Rattle.lf_judgment_laws.proofs.Variables.{by_eq, by_lt}
 use Rattle.lf_inductive_laws.specs.Recursors.{Right}
 
@@ -23,6 +43,7 @@ Lies p d k (lam x A b) = Lies p d k A × Lies p (suc d) k b
 Lies p d k (pi x A B) = Lies p d k A × Lies p (suc d) k B
 Lies p d k (letin x A v b) = Lies p d k A × Lies p d k v × Lies p (suc d) k b
 Lies p d k (lit n) = Declared p.environment nat
+Lies p d k (proj s i t) = Declared p.environment s × Lies p d k t
 
 -- ---- The three facts and the one.
 
@@ -37,6 +58,7 @@ lies_from p d k (lam x A b) s n l = (lies_from p d k A s.0 n.0 l.0, lies_from p 
 lies_from p d k (pi x A b) s n l = (lies_from p d k A s.0 n.0 l.0, lies_from p (suc d) k b s.1 n.1 l.1)
 lies_from p d k (letin x A v b) s n l = (lies_from p d k A s.0 n.0 l.0, lies_from p d k v s.1 n.1 l.1, lies_from p (suc d) k b s.2 n.2 l.2)
 lies_from p d k (lit m) s n l = n
+lies_from p d k (proj r i t) s n l = (n.0, lies_from p d k t s n.1 l)
 
 pub lies_scoped : (p : Place) (d k : ℕ) (t : Term) → Lies p d k t → Scoped d k t
 lies_scoped p d k (bound i) h = h
@@ -49,6 +71,7 @@ lies_scoped p d k (lam x A b) h = (lies_scoped p d k A h.0, lies_scoped p (suc d
 lies_scoped p d k (pi x A b) h = (lies_scoped p d k A h.0, lies_scoped p (suc d) k b h.1)
 lies_scoped p d k (letin x A v b) h = (lies_scoped p d k A h.0, lies_scoped p d k v h.1, lies_scoped p (suc d) k b h.2)
 lies_scoped p d k (lit m) h = tt
+lies_scoped p d k (proj r i t) h = lies_scoped p d k t h.1
 
 pub lies_named : (p : Place) (d k : ℕ) (t : Term) → Lies p d k t → NamesDeclared p.environment t
 lies_named p d k (bound i) h = tt
@@ -61,6 +84,7 @@ lies_named p d k (lam x A b) h = (lies_named p d k A h.0, lies_named p (suc d) k
 lies_named p d k (pi x A b) h = (lies_named p d k A h.0, lies_named p (suc d) k b h.1)
 lies_named p d k (letin x A v b) h = (lies_named p d k A h.0, lies_named p d k v h.1, lies_named p (suc d) k b h.2)
 lies_named p d k (lit m) h = h
+lies_named p d k (proj r i t) h = (h.0, lies_named p d k t h.1)
 
 pub lies_below : (p : Place) (d k : ℕ) (t : Term) → Lies p d k t → LevelsBelow p.levels t
 lies_below p d k (bound i) h = tt
@@ -73,6 +97,7 @@ lies_below p d k (lam x A b) h = (lies_below p d k A h.0, lies_below p (suc d) k
 lies_below p d k (pi x A b) h = (lies_below p d k A h.0, lies_below p (suc d) k b h.1)
 lies_below p d k (letin x A v b) h = (lies_below p d k A h.0, lies_below p d k v h.1, lies_below p (suc d) k b h.2)
 lies_below p d k (lit m) h = tt
+lies_below p d k (proj r i t) h = lies_below p d k t h.1
 
 pub right_from : (p : Place) (t : Term) → Lies p 0 0 t → Right p.environment p.levels t
 right_from p t h = record { closed = lies_scoped p 0 0 t h; named = lies_named p 0 0 t h; levels = lies_below p 0 0 t h }
@@ -90,6 +115,7 @@ lies_up p (lam x A t) a b h = (lies_up p A a b h.0, lies_up p t (omega arith) b 
 lies_up p (pi x A t) a b h = (lies_up p A a b h.0, lies_up p t (omega arith) b h.1)
 lies_up p (letin x A v t) a b h = (lies_up p A a b h.0, lies_up p v a b h.1, lies_up p t (omega arith) b h.2)
 lies_up p (lit m) a b h = h
+lies_up p (proj r i t) a b h = (h.0, lies_up p t a b h.1)
 
 pub lies_instantiate_at : (p : Place) (d k : ℕ) (t : Term) → Lies p (suc d) k t → Lies p d (suc k) (instantiate_at d t (free k))
 lies_instantiate_at p d k (bound i) h =
@@ -104,6 +130,7 @@ lies_instantiate_at p d k (lam x A b) h = (lies_instantiate_at p d k A h.0, lies
 lies_instantiate_at p d k (pi x A b) h = (lies_instantiate_at p d k A h.0, lies_instantiate_at p (suc d) k b h.1)
 lies_instantiate_at p d k (letin x A v b) h = (lies_instantiate_at p d k A h.0, lies_instantiate_at p d k v h.1, lies_instantiate_at p (suc d) k b h.2)
 lies_instantiate_at p d k (lit m) h = h
+lies_instantiate_at p d k (proj r i t) h = (h.0, lies_instantiate_at p d k t h.1)
 
 pub lies_abstract_at : (p : Place) (d k : ℕ) (t : Term) → Lies p d (suc k) t → Lies p (suc d) k (abstract_at d t k)
 lies_abstract_at p d k (bound i) h = by_lt (Lies p (suc d) k) i d (bound i) (bound (suc i)) (λ e. omega arith) (λ e. absurd (omega arith))
@@ -116,6 +143,7 @@ lies_abstract_at p d k (lam x A b) h = (lies_abstract_at p d k A h.0, lies_abstr
 lies_abstract_at p d k (pi x A b) h = (lies_abstract_at p d k A h.0, lies_abstract_at p (suc d) k b h.1)
 lies_abstract_at p d k (letin x A v b) h = (lies_abstract_at p d k A h.0, lies_abstract_at p d k v h.1, lies_abstract_at p (suc d) k b h.2)
 lies_abstract_at p d k (lit m) h = h
+lies_abstract_at p d k (proj r i t) h = (h.0, lies_abstract_at p d k t h.1)
 
 -- ---- Levels put in: as many as the place had parameters, or more.
 
@@ -124,7 +152,8 @@ below_get n [] k l h b = absurd (omega arith)
 below_get n (m ∷ ls) zero l h b = b.0
 below_get n (m ∷ ls) (suc k) l h b = below_get n ls k l (omega arith) b.1
 
-below_substitute : (m n : ℕ) (ls : List Universe) (l : Universe) → m ≤ length ls → AllParametersBelow n ls → ParametersBelow m l → ParametersBelow n (level_substitute ls l)
+pub below_substitute : (m n : ℕ) (ls : List Universe) (l : Universe) → m ≤ length ls → AllParametersBelow n ls → ParametersBelow m l
+    → ParametersBelow n (level_substitute ls l)
 below_substitute m n ls level_zero e b h = tt
 below_substitute m n ls (level_succ l) e b h = below_substitute m n ls l e b h
 below_substitute m n ls (level_max l r) e b h = (below_substitute m n ls l e b h.0, below_substitute m n ls r e b h.1)
@@ -132,11 +161,13 @@ below_substitute m n ls (level_imax l r) e b h = (below_substitute m n ls l e b 
 below_substitute m n ls (level_param k) e b h = below_get n ls k (level_param k) (omega arith) b
 below_substitute m n ls (level_meta k) e b h = h
 
-all_substitute : (m n : ℕ) (ls ks : List Universe) → m ≤ length ls → AllParametersBelow n ls → AllParametersBelow m ks → AllParametersBelow n (map (level_substitute ls) ks)
+pub all_substitute : (m n : ℕ) (ls ks : List Universe) → m ≤ length ls → AllParametersBelow n ls → AllParametersBelow m ks
+    → AllParametersBelow n (map (level_substitute ls) ks)
 all_substitute m n ls [] e b h = tt
 all_substitute m n ls (k ∷ ks) e b h = (below_substitute m n ls k e b h.0, all_substitute m n ls ks e b h.1)
 
-pub lies_at_levels : (E : Environment) (m n : ℕ) (ls : List Universe) → m ≤ length ls → AllParametersBelow n ls → (d k : ℕ) (t : Term) → Lies (record { environment = E; levels = m }) d k t → Lies (record { environment = E; levels = n }) d k (level_instantiate ls t)
+pub lies_at_levels : (E : Environment) (m n : ℕ) (ls : List Universe) → m ≤ length ls → AllParametersBelow n ls → (d k : ℕ) (t : Term)
+    → Lies (record { environment = E; levels = m }) d k t → Lies (record { environment = E; levels = n }) d k (level_instantiate ls t)
 lies_at_levels E m n ls e b d k (bound i) h = h
 lies_at_levels E m n ls e b d k (free i) h = h
 lies_at_levels E m n ls e b d k (meta i) h = h
@@ -145,5 +176,7 @@ lies_at_levels E m n ls e b d k (const c ms) h = (h.0, all_substitute m n ls ms 
 lies_at_levels E m n ls e b d k (app f a) h = (lies_at_levels E m n ls e b d k f h.0, lies_at_levels E m n ls e b d k a h.1)
 lies_at_levels E m n ls e b d k (lam x A t) h = (lies_at_levels E m n ls e b d k A h.0, lies_at_levels E m n ls e b (suc d) k t h.1)
 lies_at_levels E m n ls e b d k (pi x A t) h = (lies_at_levels E m n ls e b d k A h.0, lies_at_levels E m n ls e b (suc d) k t h.1)
-lies_at_levels E m n ls e b d k (letin x A v t) h = (lies_at_levels E m n ls e b d k A h.0, lies_at_levels E m n ls e b d k v h.1, lies_at_levels E m n ls e b (suc d) k t h.2)
+lies_at_levels E m n ls e b d k (letin x A v t) h =
+    (lies_at_levels E m n ls e b d k A h.0, lies_at_levels E m n ls e b d k v h.1, lies_at_levels E m n ls e b (suc d) k t h.2)
 lies_at_levels E m n ls e b d k (lit i) h = h
+lies_at_levels E m n ls e b d k (proj r i t) h = (h.0, lies_at_levels E m n ls e b d k t h.1)

@@ -3,12 +3,52 @@ use Rattle.std.proofs.Common.{◌≡◌, ℕ, suc, ◌+◌, ◌≤◌, ◌<◌, 
 use Rattle.std.proofs.lemmas.Bool.{cond_both}
 use Rattle.lf_core.specs.Term.{Universe, Term, free, sort, const, pi}
 use Rattle.lf_core.specs.Spine.{apply, arguments_of}
-use Rattle.lf_core.specs.Environment.{Declared, ParametersBelow, AllParametersBelow}
-use Rattle.lf_core.specs.Telescope.{Telescope, variables, pi_count, open_all, implicit, explicit}
-use Rattle.lf_core.specs.Recursor.{Case, Family, self, indices_of, is_recursive, motive, major, motive_local, motive_at, innermost, hypothesis, hypotheses, minor_type, minors, shared, recursor_type, Called, recursive_call, recursive_calls, rule, rules}
-use Rattle.lf_core.specs.declared.binder.BinderKind.TheVariants.{Explicit, Implicit}
+use Rattle.lf_rules.specs.Environment.{Declared, ParametersBelow, AllParametersBelow}
+use Rattle.lf_rules.specs.Telescope.{Telescope, variables, pi_count, open_all, implicit, explicit}
+use Rattle.lf_rules.specs.Recursor.{
+  Case,
+  Family,
+  self,
+  indices_of,
+  is_recursive,
+  motive,
+  major,
+  motive_local,
+  motive_at,
+  innermost,
+  hypothesis,
+  hypotheses,
+  minor_type,
+  minors,
+  shared,
+  recursor_type,
+  Called,
+  recursive_call,
+  recursive_calls,
+  rule,
+  rules,
+}
+use Rattle.lf_name.specs.declared.binder.BinderKind.TheVariants.{Explicit, Implicit}
 use Rattle.lf_inductive_laws.proofs.Places.{Place, Lies, lies_up}
-use Rattle.lf_inductive_laws.proofs.Places_of_telescopes.{AllLie, all_lie_append, all_lie_drop, all_lie_up, lies_apply, all_arguments_lie, variables_lie, innermost_lie, Stands, stands_append, stands_both, stands_of_kind, length-of_kind, lies_pis_over, lies_lambdas_over, Opens, opens}
+use Rattle.lf_inductive_laws.proofs.Places_of_telescopes.{
+  AllLie,
+  all_lie_append,
+  all_lie_drop,
+  all_lie_up,
+  lies_apply,
+  all_arguments_lie,
+  variables_lie,
+  innermost_lie,
+  Stands,
+  stands_append,
+  stands_both,
+  stands_of_kind,
+  length-of_kind,
+  lies_pis_over,
+  lies_lambdas_over,
+  Opens,
+  opens,
+}
 
 abbrev pub CasesLie : Place → ℕ → List Case → Type 0
 CasesLie p n [] = Unit {0}
@@ -30,21 +70,26 @@ indices_lie p f d l t h = all_lie_drop p d l (length f.params) (arguments_of t) 
 -- ---- The motive.
 
 major_lies : (p : Place) (f : Family) (k : ℕ) (is : Telescope) → FamilyLies p f → length f.params ≤ k → Lies p 0 (k + length is) (major f k is).ty
-major_lies p f k is h e = lies_apply p 0 (k + length is) (self f) (variables k is) (self_lies p f 0 (k + length is) h (omega arith)) (variables_lie p 0 k (k + length is) is (omega arith))
+major_lies p f k is h e = lies_apply p 0 (k + length is) (self f) (variables k is) (self_lies p f 0 (k + length is) h (omega arith))
+    (variables_lie p 0 k (k + length is) is (omega arith))
 
 -- Indices of some kind, and then a member.
-stands_major : (p : Place) (f : Family) (k : ℕ) (is js : Telescope) → FamilyLies p f → length f.params ≤ k → length js ≡ length is → Stands p k js → Stands p k (js ++ major f k is ∷ [])
-stands_major p f k is js h e l g = stands_append p k js (major f k is ∷ []) g (subst (λ n. Lies p 0 (k + n) (major f k is).ty) (sym l) (major_lies p f k is h e), tt)
+stands_major : (p : Place) (f : Family) (k : ℕ) (is js : Telescope) → FamilyLies p f → length f.params ≤ k → length js ≡ length is → Stands p k js
+    → Stands p k (js ++ major f k is ∷ [])
+stands_major p f k is js h e l g = stands_append p k js (major f k is ∷ []) g
+    (subst (λ n. Lies p 0 (k + n) (major f k is).ty) (sym l) (major_lies p f k is h e), tt)
 
 motive_local_lies : (p : Place) (f : Family) (s : Universe) → FamilyLies p f → ParametersBelow p.levels s → Lies p 0 (length f.params) (motive_local f s).ty
 motive_local_lies p f s h b =
     let n : ℕ = length f.params in
     let o : Opens p n (pi_count f.rest) (open_all n f.rest) = opens p n (pi_count f.rest) f.rest h.rest in
     let is : Telescope = (open_all n f.rest).locals in
-    lies_pis_over p n (explicit is ++ major f n is ∷ []) (sort s) (stands_major p f n is (explicit is) h (omega arith) (length-of_kind Explicit is) (stands_of_kind p n Explicit is o.locals)) b
+    lies_pis_over p n (explicit is ++ major f n is ∷ []) (sort s)
+    (stands_major p f n is (explicit is) h (omega arith) (length-of_kind Explicit is) (stands_of_kind p n Explicit is o.locals)) b
 
 motive_at_lies : (p : Place) (f : Family) (d l : ℕ) (t x : Term) → suc (length f.params) ≤ l → Lies p d l t → Lies p d l x → Lies p d l (motive_at f t x)
-motive_at_lies p f d l t x e h g = lies_apply p d l (motive f) (indices_of f t ++ x ∷ []) (omega arith) (all_lie_append p d l (indices_of f t) (x ∷ []) (indices_lie p f d l t h) (g, tt))
+motive_at_lies p f d l t x e h g = lies_apply p d l (motive f) (indices_of f t ++ x ∷ []) (omega arith)
+    (all_lie_append p d l (indices_of f t) (x ∷ []) (indices_lie p f d l t h) (g, tt))
 
 -- ---- Minor premises.
 
@@ -56,14 +101,20 @@ hypothesis_lies : (p : Place) (f : Family) (l i n : ℕ) (A : Term) → suc (len
 hypothesis_lies p f l i n (pi z A B) e g h = (h.0, hypothesis_lies p f l i (suc n) B e g h.1)
 hypothesis_lies p f l i n t e g h = motive_at_lies p f n l t (apply (free i) (innermost n)) e h (field_lies p l i n g)
 
-hypotheses_stand : (p : Place) (f : Family) (k i : ℕ) (xs : Telescope) → suc (length f.params) ≤ k → i + length xs ≤ k → Stands p i xs → Stands p k (hypotheses f i xs)
+hypotheses_stand : (p : Place) (f : Family) (k i : ℕ) (xs : Telescope) → suc (length f.params) ≤ k → i + length xs ≤ k → Stands p i xs
+    → Stands p k (hypotheses f i xs)
 hypotheses_stand p f k i [] e g h = tt
 hypotheses_stand p f k i (x ∷ xs) e g h =
     cond_both (is_recursive f x.ty) _ (hypotheses f (suc i) xs) (Stands p k)
-    (λ q. (hypothesis_lies p f k i 0 x.ty e (omega arith) (lies_up p x.ty zero-le (omega arith) h.0), hypotheses_stand p f (suc k) (suc i) xs (omega arith) (omega arith) h.1))
+    (λ q. (
+      hypothesis_lies p f k i 0 x.ty e (omega arith) (lies_up p x.ty zero-le (omega arith) h.0),
+      hypotheses_stand p f (suc k) (suc i) xs (omega arith)
+          (omega arith) h.1,
+    ))
     (λ q. hypotheses_stand p f k (suc i) xs e (omega arith) h.1)
 
-minor_type_lies : (p : Place) (f : Family) (c : Case) → FamilyLies p f → Declared p.environment c.constructor → Lies p 0 (length f.params) c.body → Lies p 0 (suc (length f.params)) (minor_type f c)
+minor_type_lies : (p : Place) (f : Family) (c : Case) → FamilyLies p f → Declared p.environment c.constructor → Lies p 0 (length f.params) c.body
+    → Lies p 0 (suc (length f.params)) (minor_type f c)
 minor_type_lies p f c h w s =
     let k : ℕ = suc (length f.params) in
     let o : Opens p k (pi_count c.body) (open_all k c.body) = opens p k (pi_count c.body) c.body (lies_up p c.body zero-le (omega arith) s) in
@@ -79,9 +130,14 @@ minor_type_lies p f c h w s =
     (lies_apply p 0 l (const c.constructor f.levels) (variables 0 f.params ++ variables k xs) (w, h.levels)
     (all_lie_append p 0 l (variables 0 f.params) (variables k xs) (variables_lie p 0 0 l f.params (omega arith)) (variables_lie p 0 k l xs m))))
 
-minors_stand : (p : Place) (f : Family) (k : ℕ) (cs : List Case) → FamilyLies p f → suc (length f.params) ≤ k → CasesLie p (length f.params) cs → Stands p k (minors f cs)
+minors_stand : (p : Place) (f : Family) (k : ℕ) (cs : List Case) → FamilyLies p f → suc (length f.params) ≤ k → CasesLie p (length f.params) cs
+    → Stands p k (minors f cs)
 minors_stand p f k [] h e g = tt
-minors_stand p f k (c ∷ cs) h e g = (lies_up p (minor_type f c) zero-le e (minor_type_lies p f c h g.0.0 g.0.1), minors_stand p f (suc k) cs h (omega arith) g.1)
+minors_stand p f k (c ∷ cs) h e g = (
+  lies_up p (minor_type f c) zero-le e (minor_type_lies p f c h g.0.0 g.0.1),
+  minors_stand p f (suc k) cs h (omega arith)
+      g.1,
+)
 
 -- ---- The type.
 
@@ -89,14 +145,21 @@ shared_stands : (p : Place) (f : Family) (s : Universe) → FamilyLies p f → P
 shared_stands p f s h b =
     let e : length (implicit f.params) ≡ length f.params = length-of_kind Implicit f.params in
     stands_both p (implicit f.params) (motive_local f s ∷ minors f f.cases) (stands_of_kind p 0 Implicit f.params h.params)
-    (subst (λ n. Stands p n (motive_local f s ∷ minors f f.cases)) (sym e) (motive_local_lies p f s h b, minors_stand p f (suc (length f.params)) f.cases h (omega arith) h.cases))
+    (subst (λ n. Stands p n (motive_local f s ∷ minors f f.cases)) (sym e)
+    (motive_local_lies p f s h b, minors_stand p f (suc (length f.params)) f.cases h (omega arith) h.cases))
 
 length-minors : (f : Family) (cs : List Case) → length (minors f cs) ≡ length cs
 length-minors f [] = refl
 length-minors f (c ∷ cs) = let e : length (minors f cs) ≡ length cs = length-minors f cs in omega arith
 
 pub length-shared : (f : Family) (s : Universe) → length (shared f s) ≡ length f.params + suc (length f.cases)
-length-shared f s = omega (arith, length-append (implicit f.params) (motive_local f s ∷ minors f f.cases), length-of_kind Implicit f.params, length-minors f f.cases)
+length-shared f s = omega (
+  arith,
+  length-append (implicit f.params) (motive_local f s ∷ minors f f.cases),
+  length-of_kind Implicit f.params,
+  length-minors f
+      f.cases,
+)
 
 pub recursor_type_lies : (p : Place) (f : Family) (s : Universe) → FamilyLies p f → ParametersBelow p.levels s → Lies p 0 0 (recursor_type f s)
 recursor_type_lies p f s h b =
@@ -121,7 +184,8 @@ pub record CalledLies (p : Place) (r : Called) : Type 0 where
   pub name : Declared p.environment r.name
   pub levels : AllParametersBelow p.levels r.levels
 
-recursive_call_lies : (p : Place) (f : Family) (s : Universe) (r : Called) (l i n : ℕ) (A : Term) → CalledLies p r → length (shared f s) ≤ l → i < l → Lies p n l A → Lies p n l (recursive_call f s r (free i) n A)
+recursive_call_lies : (p : Place) (f : Family) (s : Universe) (r : Called) (l i n : ℕ) (A : Term) → CalledLies p r → length (shared f s) ≤ l → i < l
+    → Lies p n l A → Lies p n l (recursive_call f s r (free i) n A)
 recursive_call_lies p f s r l i n (pi z A B) c e g h = (h.0, recursive_call_lies p f s r l i (suc n) B c e g h.1)
 recursive_call_lies p f s r l i n t c e g h =
     let v : Term = apply (free i) (innermost n) in
@@ -130,17 +194,24 @@ recursive_call_lies p f s r l i n t c e g h =
     (all_lie_append p n l (variables 0 (shared f s)) (indices_of f t) (variables_lie p n 0 l (shared f s) (omega arith)) (indices_lie p f n l t h))
     (field_lies p l i n g, tt))
 
-recursive_calls_lie : (p : Place) (f : Family) (s : Universe) (r : Called) (k i : ℕ) (xs : Telescope) → CalledLies p r → length (shared f s) ≤ k → i + length xs ≤ k → Stands p i xs → AllLie p 0 k (recursive_calls f s r i xs)
+recursive_calls_lie : (p : Place) (f : Family) (s : Universe) (r : Called) (k i : ℕ) (xs : Telescope) → CalledLies p r → length (shared f s) ≤ k
+    → i + length xs ≤ k → Stands p i xs → AllLie p 0 k (recursive_calls f s r i xs)
 recursive_calls_lie p f s r k i [] c e g h = tt
 recursive_calls_lie p f s r k i (x ∷ xs) c e g h =
     cond_both (is_recursive f x.ty) _ (recursive_calls f s r (suc i) xs) (AllLie p 0 k)
-    (λ q. (recursive_call_lies p f s r k i 0 x.ty c e (omega arith) (lies_up p x.ty zero-le (omega arith) h.0), recursive_calls_lie p f s r k (suc i) xs c e (omega arith) h.1))
+    (λ q. (
+      recursive_call_lies p f s r k i 0 x.ty c e (omega arith) (lies_up p x.ty zero-le (omega arith) h.0),
+      recursive_calls_lie p f s r k (suc i) xs c e
+          (omega arith) h.1,
+    ))
     (λ q. recursive_calls_lie p f s r k (suc i) xs c e (omega arith) h.1)
 
-rule_lies : (p : Place) (f : Family) (s : Universe) (r : Called) (m : ℕ) (c : Case) → FamilyLies p f → ParametersBelow p.levels s → CalledLies p r → m < length (shared f s) → Lies p 0 (length f.params) c.body → Lies p 0 0 (rule f s r m c)
+rule_lies : (p : Place) (f : Family) (s : Universe) (r : Called) (m : ℕ) (c : Case) → FamilyLies p f → ParametersBelow p.levels s → CalledLies p r
+    → m < length (shared f s) → Lies p 0 (length f.params) c.body → Lies p 0 0 (rule f s r m c)
 rule_lies p f s r m c h b w e g =
     let q : ℕ = length (shared f s) in
-    let o : Opens p q (pi_count c.body) (open_all q c.body) = opens p q (pi_count c.body) c.body (lies_up p c.body zero-le (omega (arith, length-shared f s)) g) in
+    let o : Opens p q (pi_count c.body) (open_all q c.body) = opens p q (pi_count c.body) c.body (lies_up p c.body zero-le (omega (arith, length-shared f s)) g)
+    in
     let xs : Telescope = (open_all q c.body).locals in
     let l : ℕ = 0 + length (shared f s ++ xs) in
     let le : q + length xs ≤ l = omega (arith, length-append (shared f s) xs) in
@@ -151,6 +222,7 @@ rule_lies p f s r m c h b w e g =
     (all_lie_append p 0 l (variables q xs) ys (variables_lie p 0 q l xs le)
     (all_lie_up p ys zero-le le (recursive_calls_lie p f s r (q + length xs) q xs w (omega arith) (omega arith) o.locals))))
 
-pub rules_lie : (p : Place) (f : Family) (s : Universe) (r : Called) (m : ℕ) (cs : List Case) → FamilyLies p f → ParametersBelow p.levels s → CalledLies p r → m + length cs ≤ length (shared f s) → CasesLie p (length f.params) cs → AllLie p 0 0 (rules f s r m cs)
+pub rules_lie : (p : Place) (f : Family) (s : Universe) (r : Called) (m : ℕ) (cs : List Case) → FamilyLies p f → ParametersBelow p.levels s → CalledLies p r
+    → m + length cs ≤ length (shared f s) → CasesLie p (length f.params) cs → AllLie p 0 0 (rules f s r m cs)
 rules_lie p f s r m [] h b w e g = tt
 rules_lie p f s r m (c ∷ cs) h b w e g = (rule_lies p f s r m c h b w (omega arith) g.0.1, rules_lie p f s r (suc m) cs h b w (omega arith) g.1)

@@ -3,9 +3,9 @@ use Rattle.std.proofs.Common.{◌≡◌, ℕ, zero, suc, ◌+◌, ◌≤◌, Lis
 use Rattle.lf_core.specs.Term.{Term, free, app, pi}
 use Rattle.lf_core.specs.Substitution.{instantiate}
 use Rattle.lf_core.specs.Spine.{apply, arguments_before, arguments_of}
-use Rattle.lf_core.specs.Telescope.{Telescope, variables, pis_over, lambdas_over, Opened, behind, open_pis, of_kind}
-use Rattle.lf_core.specs.Recursor.{innermost}
-use Rattle.lf_core.specs.declared.binder.BinderKind.{BinderKind}
+use Rattle.lf_rules.specs.Telescope.{Telescope, variables, pis_over, lambdas_over, Opened, behind, open_pis, of_kind}
+use Rattle.lf_rules.specs.Recursor.{innermost}
+use Rattle.lf_name.specs.declared.binder.BinderKind.{BinderKind}
 use Rattle.lf_inductive_laws.proofs.Places.{Place, Lies, lies_up, lies_instantiate_at, lies_abstract_at}
 
 -- ---- Lists of terms.

@@ -2,10 +2,10 @@
 use Rattle.std.proofs.Common.{◌≡◌, ℕ, suc, ◌⊎◌, inl, inr, Bool, List, [], ◌∷◌, ◌++◌, length, sym, subst, ◌∙◌, Some, None, Contains}
 use Rattle.std.proofs.lemmas.List.Elements.{Contains-append_left, Contains-append_cases, Contains-push_cases}
 use Rattle.lf_core.specs.Term.{Universe, Term, sort}
-use Rattle.lf_core.specs.Environment.{Environment}
-use Rattle.lf_core.specs.Inductive.{ConstructorsRight, type_of, constructor_of, constructors_from, declared, with_type, own_family}
-use Rattle.lf_core.specs.Recursor.{recursor_of}
-use Rattle.lf_core.specs.Derived.{Checked, Stated, ConstructorsNamed, Introduced, Derived, empty, with_axiom, with_value, with_inductive}
+use Rattle.lf_rules.specs.Environment.{Environment}
+use Rattle.lf_rules.specs.Inductive.{ConstructorsRight, type_constant, constructor_constant, constructors_from, declared_constants, with_type, own_family}
+use Rattle.lf_rules.specs.Recursor.{recursor_of}
+use Rattle.lf_rules.specs.Derived.{Checked, Stated, ConstructorsNamed, Introduced, Derived, empty, with_axiom, with_value, with_inductive}
 use Rattle.lf_core.specs.declared.constant.ConstInfo.{ConstInfo}
 use Rattle.lf_core.specs.declared.constant.CtorInfo.{CtorInfo}
 use Rattle.lf_core.specs.declared.constant.Detail.{Detail}
@@ -68,56 +68,72 @@ value_right E c v s q h = record {
 
 -- ---- The constants of a declaration.
 
-constructors_right : (E : Environment) (d : IndDecl) (r : Universe) (i : ℕ) (cs : List CtorInfo) → ConstructorsRight E (own_family d) r cs → ConstructorsNamed E d cs → (c : ConstInfo) → Contains (constructors_from d i cs) c → ConstantRight E c
+constructors_right : (E : Environment) (d : IndDecl) (r : Universe) (i : ℕ) (cs : List CtorInfo) → ConstructorsRight E (own_family d) r cs
+    → ConstructorsNamed E d cs → (c : ConstInfo) → Contains (constructors_from d i cs) c → ConstantRight E c
 constructors_right E d r i [] h n c w = absurd (none_contained c w)
-constructors_right E d r i (x ∷ cs) h n c w = at (λ v. constructors_right E d r (suc i) cs h.1 n.1 c v) (contained_cases (constructor_of d i x) c (constructors_from d (suc i) cs) w)
+constructors_right E d r i (x ∷ cs) h n c w = at (λ v. constructors_right E d r (suc i) cs h.1 n.1 c v)
+    (contained_cases (constructor_constant d i x) c (constructors_from d (suc i) cs) w)
   where
-    at : (Contains (constructors_from d (suc i) cs) c → ConstantRight E c) → (constructor_of d i x ≡ c) ⊎ Contains (constructors_from d (suc i) cs) c → ConstantRight E c
-    at later (inl e) = subst (ConstantRight E) e (record { ty = record { closed = typed_scoped E h.0.typed; named = n.0.0; levels = n.0.1 }; value = λ v q. absurd (no_value q); rules = tt })
+    at : (Contains (constructors_from d (suc i) cs) c → ConstantRight E c) → (constructor_constant d i x ≡ c) ⊎ Contains (constructors_from d (suc i) cs) c
+        → ConstantRight E c
+    at later (inl e) = subst (ConstantRight E) e
+        (record { ty = record { closed = typed_scoped E h.0.typed; named = n.0.0; levels = n.0.1 }; value = λ v q. absurd (no_value q); rules = tt })
     at later (inr v) = later v
 
-type_right : (E : Environment) (d : IndDecl) (large : Bool) → Introduced E d large → ConstantRight E (type_of d large)
-type_right E d large i = record { ty = record { closed = typed_scoped E i.admitted.typed; named = i.named; levels = i.levels }; value = λ v q. absurd (no_value q); rules = tt }
+type_right : (E : Environment) (d : IndDecl) (large : Bool) → Introduced E d large → ConstantRight E (type_constant d large)
+type_right E d large i = record {
+  ty = record { closed = typed_scoped E i.admitted.typed; named = i.named; levels = i.levels };
+  value = λ v q.
+      absurd (no_value q);
+  rules = tt;
+}
 
-recursor_right : (E : Environment) (d : IndDecl) (large : Bool) → Introduced E d large → ConstantRight (E ++ declared d large) (recursor_of d large)
+recursor_right : (E : Environment) (d : IndDecl) (large : Bool) → Introduced E d large → ConstantRight (E ++ declared_constants d large) (recursor_of d large)
 recursor_right E d large i =
-    let r : RecursorRight (E ++ declared d large) d large = recursors_are_right E d large i in
+    let r : RecursorRight (E ++ declared_constants d large) d large = recursors_are_right E d large i in
     record { ty = r.ty; value = λ v q. absurd (no_value q); rules = r.rules }
 
-pub declared_cases : (d : IndDecl) (large : Bool) (c : ConstInfo) → Contains (declared d large) c → (type_of d large ≡ c) ⊎ (Contains (constructors_from d 0 d.ctors) c ⊎ (recursor_of d large ≡ c))
-declared_cases d large c w = at (contained_cases (type_of d large) c (constructors_from d 0 d.ctors ++ recursor_of d large ∷ []) w)
+pub declared_cases : (d : IndDecl) (large : Bool) (c : ConstInfo) → Contains (declared_constants d large) c
+    → (type_constant d large ≡ c) ⊎ (Contains (constructors_from d 0 d.ctors) c ⊎ (recursor_of d large ≡ c))
+declared_cases d large c w = at (contained_cases (type_constant d large) c (constructors_from d 0 d.ctors ++ recursor_of d large ∷ []) w)
   where
-    at : (type_of d large ≡ c) ⊎ Contains (constructors_from d 0 d.ctors ++ recursor_of d large ∷ []) c → (type_of d large ≡ c) ⊎ (Contains (constructors_from d 0 d.ctors) c ⊎ (recursor_of d large ≡ c))
+    at : (type_constant d large ≡ c) ⊎ Contains (constructors_from d 0 d.ctors ++ recursor_of d large ∷ []) c
+        → (type_constant d large ≡ c) ⊎ (Contains (constructors_from d 0 d.ctors) c ⊎ (recursor_of d large ≡ c))
     at (inl e) = inl e
     at (inr v) = inr (Contains-push_cases (constructors_from d 0 d.ctors) (recursor_of d large) c v)
 
-declared_right : (E : Environment) (d : IndDecl) (large : Bool) → Introduced E d large → (c : ConstInfo) → Contains (declared d large) c → ConstantRight (E ++ declared d large) c
+declared_right : (E : Environment) (d : IndDecl) (large : Bool) → Introduced E d large → (c : ConstInfo) → Contains (declared_constants d large) c
+    → ConstantRight (E ++ declared_constants d large) c
 declared_right E d large i c w = at (declared_cases d large c w)
   where
-    at : (type_of d large ≡ c) ⊎ (Contains (constructors_from d 0 d.ctors) c ⊎ (recursor_of d large ≡ c)) → ConstantRight (E ++ declared d large) c
-    at (inl e) = subst (ConstantRight (E ++ declared d large)) e (constant_grows E (E ++ declared d large) (within_declared E d large) (type_of d large) (type_right E d large i))
+    at : (type_constant d large ≡ c) ⊎ (Contains (constructors_from d 0 d.ctors) c ⊎ (recursor_of d large ≡ c))
+        → ConstantRight (E ++ declared_constants d large) c
+    at (inl e) = subst (ConstantRight (E ++ declared_constants d large)) e
+        (constant_grows E (E ++ declared_constants d large) (within_declared E d large) (type_constant d large) (type_right E d large i))
     at (inr (inl v)) =
-        constant_grows (with_type E d) (E ++ declared d large) (with_type_grows E d large) c
+        constant_grows (with_type E d) (E ++ declared_constants d large) (with_type_grows E d large) c
         (constructors_right (with_type E d) d i.admitted.result 0 d.ctors i.admitted.constructors i.constructors c v)
-    at (inr (inr e)) = subst (ConstantRight (E ++ declared d large)) e (recursor_right E d large i)
+    at (inr (inr e)) = subst (ConstantRight (E ++ declared_constants d large)) e (recursor_right E d large i)
 
 -- ---- All.
 
 longer : (E : Environment) (cs : List ConstInfo) → Grows E (E ++ cs)
 longer E cs c w = (c, Contains-append_left E cs c w, self_tells c)
 
-one_more : (E : Environment) (c d : ConstInfo) → (Contains E d → ConstantRight E d) → ConstantRight E c → Contains (E ++ c ∷ []) d → ConstantRight (E ++ c ∷ []) d
+one_more : (E : Environment) (c d : ConstInfo) → (Contains E d → ConstantRight E d) → ConstantRight E c → Contains (E ++ c ∷ []) d
+    → ConstantRight (E ++ c ∷ []) d
 one_more E c d f r w = at (Contains-push_cases E c d w)
   where
     at : Contains E d ⊎ (c ≡ d) → ConstantRight (E ++ c ∷ []) d
     at (inl i) = constant_grows E (E ++ c ∷ []) (longer E (c ∷ [])) d (f i)
     at (inr e) = subst (ConstantRight (E ++ c ∷ [])) e (constant_grows E (E ++ c ∷ []) (longer E (c ∷ [])) c r)
 
-several_more : (E : Environment) (d : IndDecl) (large : Bool) (c : ConstInfo) → (Contains E c → ConstantRight E c) → Introduced E d large → Contains (E ++ declared d large) c → ConstantRight (E ++ declared d large) c
-several_more E d large c f i w = at (Contains-append_cases E (declared d large) c w)
+several_more : (E : Environment) (d : IndDecl) (large : Bool) (c : ConstInfo) → (Contains E c → ConstantRight E c) → Introduced E d large
+    → Contains (E ++ declared_constants d large) c → ConstantRight (E ++ declared_constants d large) c
+several_more E d large c f i w = at (Contains-append_cases E (declared_constants d large) c w)
   where
-    at : Contains E c ⊎ Contains (declared d large) c → ConstantRight (E ++ declared d large) c
-    at (inl v) = constant_grows E (E ++ declared d large) (within_declared E d large) c (f v)
+    at : Contains E c ⊎ Contains (declared_constants d large) c → ConstantRight (E ++ declared_constants d large) c
+    at (inl v) = constant_grows E (E ++ declared_constants d large) (within_declared E d large) c (f v)
     at (inr v) = declared_right E d large i c v
 
 pub derived_is_right : (E : Environment) → Derived E → (c : ConstInfo) → Contains E c → ConstantRight E c

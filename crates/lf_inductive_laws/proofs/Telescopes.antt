@@ -1,13 +1,47 @@
 -- Telescopes: what is opened is closed again, what is closed is opened again, and pis over types are a type.
-use Rattle.std.proofs.Common.{◌≡◌, ℕ, zero, suc, ◌+◌, ◌-◌, ◌≤◌, nat_eq, if◌then◌else◌, [], ◌∷◌, ◌++◌, append_assoc, append-nil, length, refl, sym, ap, ap₂, subst, ◌∙◌, arith, zero-le}
-use Rattle.lf_core.specs.Term.{Universe, level_imax, Term, bound, free, meta, sort, const, app, lam, pi, letin, lit}
+use Rattle.std.proofs.Common.{
+  ◌≡◌,
+  ℕ,
+  zero,
+  suc,
+  ◌+◌,
+  ◌-◌,
+  ◌≤◌,
+  nat_eq,
+  if◌then◌else◌,
+  [],
+  ◌∷◌,
+  ◌++◌,
+  append_assoc,
+  append-nil,
+  length,
+  refl,
+  sym,
+  ap,
+  ap₂,
+  subst,
+  ◌∙◌,
+  arith,
+  zero-le,
+}
+use Rattle.lf_core.specs.Term.{Universe, level_imax, Term, bound, free, meta, sort, const, app, lam, pi, letin, lit, proj}
 use Rattle.lf_core.specs.Substitution.{raise, instantiate_at, instantiate, abstract_at, abstract}
 use Rattle.lf_core.specs.Scope.{Scoped}
-use Rattle.lf_core.specs.Environment.{Environment, Context, with}
-use Rattle.lf_core.specs.Judgment.{HasType, pi_type}
-use Rattle.lf_core.specs.Telescope.{Telescope, types, pis_over, Opened, behind, open_pis, pi_count}
+use Rattle.lf_rules.specs.Environment.{Environment, Context, with}
+use Rattle.lf_rules.specs.Judgment.{HasType, pi_type}
+use Rattle.lf_rules.specs.Telescope.{Telescope, types, pis_over, Opened, behind, open_pis, pi_count}
 use Rattle.lf_judgment_laws.specs.InScope.{AllScoped, ContextScoped}
-use Rattle.lf_judgment_laws.proofs.Variables.{by_eq, by_lt, scoped_up, scoped_instantiate, scoped_abstract_at, instantiate_at-abstract_at, length-with, scoped_closed, opened-abstract}
+use Rattle.lf_judgment_laws.proofs.Variables.{
+  by_eq,
+  by_lt,
+  scoped_up,
+  scoped_instantiate,
+  scoped_abstract_at,
+  instantiate_at-abstract_at,
+  length-with,
+  scoped_closed,
+  opened-abstract,
+}
 use Rattle.lf_judgment_laws.proofs.Scopes.{typed_scoped}
 use Rattle.lf_inductive_laws.specs.Telescopes.{Placed, InSorts, reclosed, TelescopeLaws}
 
@@ -27,8 +61,10 @@ abstract_at-instantiate_at d k (const c ms) h = refl
 abstract_at-instantiate_at d k (app f a) h = ap₂ app (abstract_at-instantiate_at d k f h.0) (abstract_at-instantiate_at d k a h.1)
 abstract_at-instantiate_at d k (lam x A b) h = ap₂ (lam x) (abstract_at-instantiate_at d k A h.0) (abstract_at-instantiate_at (suc d) k b h.1)
 abstract_at-instantiate_at d k (pi x A b) h = ap₂ (pi x) (abstract_at-instantiate_at d k A h.0) (abstract_at-instantiate_at (suc d) k b h.1)
-abstract_at-instantiate_at d k (letin x A v b) h = cc (abstract_at-instantiate_at d k A h.0, abstract_at-instantiate_at d k v h.1, abstract_at-instantiate_at (suc d) k b h.2)
+abstract_at-instantiate_at d k (letin x A v b) h = cc
+    (abstract_at-instantiate_at d k A h.0, abstract_at-instantiate_at d k v h.1, abstract_at-instantiate_at (suc d) k b h.2)
 abstract_at-instantiate_at d k (lit n) h = refl
+abstract_at-instantiate_at d k (proj s i t) h = ap (proj s i) (abstract_at-instantiate_at d k t h)
 
 -- The body of a pi over k variables, opened with the next.
 opened_body : (k : ℕ) (B : Term) → Scoped 1 k B → Scoped 0 (suc k) (instantiate B (free k))
@@ -48,7 +84,8 @@ scoped_pis_over k (x ∷ xs) t h s =
     let e : k + length (x ∷ xs) ≡ suc k + length xs = omega arith in
     (h.0, scoped_abstract_at 0 k (pis_over (suc k) xs t) (scoped_pis_over (suc k) xs t h.1 (subst (λ n. Scoped 0 n t) e s)))
 
-pub opened_closed : (k : ℕ) (xs : Telescope) (t : Term) → Placed k xs → Scoped 0 (k + length xs) t → open_pis k (length xs) (pis_over k xs t) ≡ record { locals = xs; rest = t }
+pub opened_closed : (k : ℕ) (xs : Telescope) (t : Term) → Placed k xs → Scoped 0 (k + length xs) t
+    → open_pis k (length xs) (pis_over k xs t) ≡ record { locals = xs; rest = t }
 opened_closed k [] t h s = refl
 opened_closed k (x ∷ xs) t h s =
     let e : k + length (x ∷ xs) ≡ suc k + length xs = omega arith in
@@ -85,7 +122,8 @@ pi_count-instantiate_at d k _ = refl
 pub length-opened : (k n : ℕ) (t : Term) → n ≤ pi_count t → length (open_pis k n t).locals ≡ n
 length-opened k zero t h = refl
 length-opened k (suc n) (pi x A B) h =
-    let e : length (open_pis (suc k) n (instantiate B (free k))).locals ≡ n = length-opened (suc k) n (instantiate B (free k)) (omega (arith, pi_count-instantiate_at 0 k B)) in
+    let e : length (open_pis (suc k) n (instantiate B (free k))).locals ≡ n = length-opened (suc k) n (instantiate B (free k))
+    (omega (arith, pi_count-instantiate_at 0 k B)) in
     omega arith
 length-opened k (suc n) t h = absurd (omega arith)
 
@@ -102,15 +140,20 @@ placed_context xs h = placed_types 0 (length (types xs)) xs (omega (arith, lengt
 
 -- ---- Typing.
 
-pub pis_typed : (E : Environment) (C : Context) (xs : Telescope) (t : Term) (l : Universe) → InSorts E C (types xs) → HasType E (C ++ types xs) t (sort l) → (m : Universe) × HasType E C (pis_over (length C) xs t) (sort m)
+pub pis_typed : (E : Environment) (C : Context) (xs : Telescope) (t : Term) (l : Universe) → InSorts E C (types xs) → HasType E (C ++ types xs) t (sort l)
+    → (m : Universe) × HasType E C (pis_over (length C) xs t) (sort m)
 pis_typed E C [] t l h s = (l, subst (λ D. HasType E D t (sort l)) (append-nil C) s)
 pis_typed E C (x ∷ xs) t l h s =
     let D : Context = with C x.ty in
     let p : Term = pis_over (suc (length C)) xs t in
-    let r : (m : Universe) × HasType E D (pis_over (length D) xs t) (sort m) = pis_typed E D xs t l h.1 (subst (λ G. HasType E G t (sort l)) (sym (append_assoc C (x.ty ∷ []) (types xs))) s) in
+    let r : (m : Universe) × HasType E D (pis_over (length D) xs t) (sort m) = pis_typed E D xs t l h.1
+    (subst (λ G. HasType E G t (sort l)) (sym (append_assoc C (x.ty ∷ []) (types xs))) s) in
     let g : HasType E D p (sort r.0) = subst (λ n. HasType E D (pis_over n xs t) (sort r.0)) (length-with C x.ty) r.1 in
-    let sc : Scoped 0 (length D) p = typed_scoped E g in
-    (level_imax h.0.0 r.0, pi_type h.0.0 r.0 h.0.1 (scoped_closed C x.ty p sc) (subst (λ q. HasType E D q (sort r.0)) (sym (opened-abstract C (length D) p sc)) g))
+    let sc : Scoped 0 (length D) p = typed_scoped E g in (
+      level_imax h.0.0 r.0,
+      pi_type h.0.0 r.0 h.0.1 (scoped_closed C x.ty p sc)
+          (subst (λ q. HasType E D q (sort r.0)) (sym (opened-abstract C (length D) p sc)) g),
+    )
 
 pub telescope_laws : TelescopeLaws
 telescope_laws = record {

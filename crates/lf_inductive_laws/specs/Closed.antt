@@ -1,8 +1,8 @@
 -- The constants of a derived environment are closed, and name only constants of it, at their own levels.
 use Rattle.std.specs.Prelude.{◌≡◌, Some, length, Contains}
 use Rattle.lf_core.specs.Term.{Term}
-use Rattle.lf_core.specs.Environment.{Environment}
-use Rattle.lf_core.specs.Derived.{Derived}
+use Rattle.lf_rules.specs.Environment.{Environment}
+use Rattle.lf_rules.specs.Derived.{Derived}
 use Rattle.lf_core.specs.declared.constant.ConstInfo.{ConstInfo}
 use Rattle.lf_core.specs.declared.constant.Detail.{Detail}
 use Rattle.lf_core.specs.declared.constant.Detail.TheVariants.{Rec}

@@ -2,10 +2,10 @@
 use Rattle.std.specs.Prelude.{◌≡◌, ℕ, zero, suc, ◌+◌, Bool, Some, List, length, slice_get, Contains}
 use Rattle.lf_core.specs.Term.{Path, Universe, Term, const, pi}
 use Rattle.lf_core.specs.Spine.{apply}
-use Rattle.lf_core.specs.Environment.{Environment}
-use Rattle.lf_core.specs.Recursor.{recursor_of}
-use Rattle.lf_core.specs.Inductive.{type_of, constructor_of, declared}
-use Rattle.lf_core.specs.Derived.{Derived, Introduced}
+use Rattle.lf_rules.specs.Environment.{Environment}
+use Rattle.lf_rules.specs.Recursor.{recursor_of}
+use Rattle.lf_rules.specs.Inductive.{type_constant, constructor_constant, declared_constants}
+use Rattle.lf_rules.specs.Derived.{Derived, Introduced}
 use Rattle.lf_core.specs.declared.constant.ConstInfo.{ConstInfo}
 use Rattle.lf_core.specs.declared.constant.CtorInfo.{CtorInfo}
 use Rattle.lf_core.specs.declared.constant.Detail.TheVariants.{Ind, Ctor, Rec}
@@ -18,11 +18,11 @@ pub record Introduction (E : Environment) : Type 0 where
   pub large : Bool
   pub derived : Derived before
   pub introduced : Introduced before declaration large
-  pub within : (c : ConstInfo) → Contains (declared declaration large) c → Contains E c
+  pub within : (c : ConstInfo) → Contains (declared_constants declaration large) c → Contains E c
 
 pub record TypeDeclared (E : Environment) (c : ConstInfo) : Type 0 where
   pub at : Introduction E
-  pub is : c ≡ type_of at.declaration at.large
+  pub is : c ≡ type_constant at.declaration at.large
 
 -- The constructor of this index.
 pub record ConstructorDeclared (E : Environment) (c : ConstInfo) : Type 0 where
@@ -30,7 +30,7 @@ pub record ConstructorDeclared (E : Environment) (c : ConstInfo) : Type 0 where
   pub index : ℕ
   pub constructor : CtorInfo
   pub listed : slice_get at.declaration.ctors index ≡ Some constructor
-  pub is : c ≡ constructor_of at.declaration index constructor
+  pub is : c ≡ constructor_constant at.declaration index constructor
 
 pub record RecursorDeclared (E : Environment) (c : ConstInfo) : Type 0 where
   pub at : Introduction E
@@ -42,15 +42,21 @@ EndsIn T zero m A = (ls : List Universe) × (xs : List Term) × (A ≡ apply (co
 EndsIn T (suc n) m (pi x A B) = EndsIn T n m B
 EndsIn T (suc n) m _ = ⊥
 
+-- The constructor's type is pis over parameters and fields, and then its type at all parameters and indices; it has as many levels as its type.
+abbrev pub IsOf : ConstInfo → ℕ → ℕ → ConstInfo → Type 0
+IsOf t n m c = EndsIn t.name n m c.ty × (length c.levels ≡ length t.levels)
+
 pub record AsDeclared (E : Environment) : Type 0 where
-  pub types : (c : ConstInfo) (params indices : ℕ) (names : List Path) (large : Bool) → Contains E c → c.detail ≡ Ind params indices names large → TypeDeclared E c
+  pub types : (c : ConstInfo) (params indices : ℕ) (names : List Path) (large : Bool) → Contains E c → c.detail ≡ Ind params indices names large
+      → TypeDeclared E c
   pub constructors : (c : ConstInfo) (ind : Path) (index own fields : ℕ) → Contains E c → c.detail ≡ Ctor ind index own fields → ConstructorDeclared E c
-  pub recursors : (c : ConstInfo) (ind : Path) (params minors indices : ℕ) (rules : List Term) → Contains E c → c.detail ≡ Rec ind params minors indices rules → RecursorDeclared E c
+  pub recursors : (c : ConstInfo) (ind : Path) (params minors indices : ℕ) (rules : List Term) → Contains E c → c.detail ≡ Rec ind params minors indices rules
+      → RecursorDeclared E c
   -- two constants of one name are one
   pub distinct : (c d : ConstInfo) → Contains E c → Contains E d → c.name ≡ d.name → c ≡ d
-  -- a constructor's type is pis over parameters and fields, and then its type at all parameters and indices
-  pub ends : (t c : ConstInfo) (params indices index own fields : ℕ) (names : List Path) (large : Bool) → Contains E t → Contains E c → t.detail ≡ Ind params indices names large → c.detail ≡ Ctor t.name index own fields
-      → EndsIn t.name (own + fields) (params + indices) c.ty
+  pub ends : (t c : ConstInfo) (params indices index own fields : ℕ) (names : List Path) (large : Bool) → Contains E t → Contains E c
+      → t.detail ≡ Ind params indices names large → c.detail ≡ Ctor t.name index own fields
+      → IsOf t (own + fields) (params + indices) c
 
 abbrev pub DerivedIsAsDeclared : Type 0
 DerivedIsAsDeclared = (E : Environment) → Derived E → AsDeclared E

@@ -2,10 +2,10 @@
 use Rattle.std.specs.Prelude.{ℕ, Bool, List, [], ◌∷◌, ◌++◌, length}
 use Rattle.lf_core.specs.Term.{Term}
 use Rattle.lf_core.specs.Scope.{Scoped}
-use Rattle.lf_core.specs.Environment.{Environment, NamesDeclared, LevelsBelow}
-use Rattle.lf_core.specs.Recursor.{recursor_of, recursor_levels, recursor_rules}
-use Rattle.lf_core.specs.Inductive.{declared}
-use Rattle.lf_core.specs.Derived.{Introduced}
+use Rattle.lf_rules.specs.Environment.{Environment, NamesDeclared, LevelsBelow}
+use Rattle.lf_rules.specs.Recursor.{recursor_of, recursor_levels, recursor_rules}
+use Rattle.lf_rules.specs.Inductive.{declared_constants}
+use Rattle.lf_rules.specs.Derived.{Introduced}
 use Rattle.lf_core.specs.declared.constant.IndDecl.{IndDecl}
 
 -- A closed term that names only constants of E, and whose levels are below n.
@@ -23,4 +23,4 @@ pub record RecursorRight (E : Environment) (d : IndDecl) (large : Bool) : Type 0
   pub rules : AllRight E (length (recursor_levels d large)) (recursor_rules d large)
 
 abbrev pub RecursorsAreRight : Type 0
-RecursorsAreRight = (E : Environment) (d : IndDecl) (large : Bool) → Introduced E d large → RecursorRight (E ++ declared d large) d large
+RecursorsAreRight = (E : Environment) (d : IndDecl) (large : Bool) → Introduced E d large → RecursorRight (E ++ declared_constants d large) d large

@@ -2,9 +2,9 @@
 use Rattle.std.specs.Prelude.{◌≡◌, ℕ, suc, ◌+◌, List, [], ◌∷◌, ◌++◌, length}
 use Rattle.lf_core.specs.Term.{Universe, Term, sort}
 use Rattle.lf_core.specs.Scope.{Scoped}
-use Rattle.lf_core.specs.Environment.{Environment, Context, with}
-use Rattle.lf_core.specs.Judgment.{HasType}
-use Rattle.lf_core.specs.Telescope.{Telescope, types, pis_over, Opened, open_pis}
+use Rattle.lf_rules.specs.Environment.{Environment, Context, with}
+use Rattle.lf_rules.specs.Judgment.{HasType}
+use Rattle.lf_rules.specs.Telescope.{Telescope, types, pis_over, Opened, open_pis}
 use Rattle.lf_judgment_laws.specs.InScope.{ContextScoped}
 
 -- The first local is the variable k, and each type has only the variables before it.
@@ -23,9 +23,11 @@ reclosed k o = pis_over k o.locals o.rest
 
 pub record TelescopeLaws : Type 0 where
   pub closed_opened : (k n : ℕ) (t : Term) → Scoped 0 k t → reclosed k (open_pis k n t) ≡ t
-  pub opened_closed : (k : ℕ) (xs : Telescope) (t : Term) → Placed k xs → Scoped 0 (k + length xs) t → open_pis k (length xs) (pis_over k xs t) ≡ record { locals = xs; rest = t }
+  pub opened_closed : (k : ℕ) (xs : Telescope) (t : Term) → Placed k xs → Scoped 0 (k + length xs) t
+      → open_pis k (length xs) (pis_over k xs t) ≡ record { locals = xs; rest = t }
   -- what is opened lies in the scope of what stands before it
   pub opened_placed : (k n : ℕ) (t : Term) → Scoped 0 k t → Placed k (open_pis k n t).locals
   pub context : (xs : Telescope) → Placed 0 xs → ContextScoped (types xs)
   -- pis over types in sorts are in a sort
-  pub typed : (E : Environment) (C : Context) (xs : Telescope) (t : Term) (l : Universe) → InSorts E C (types xs) → HasType E (C ++ types xs) t (sort l) → (m : Universe) × HasType E C (pis_over (length C) xs t) (sort m)
+  pub typed : (E : Environment) (C : Context) (xs : Telescope) (t : Term) (l : Universe) → InSorts E C (types xs) → HasType E (C ++ types xs) t (sort l)
+      → (m : Universe) × HasType E C (pis_over (length C) xs t) (sort m)

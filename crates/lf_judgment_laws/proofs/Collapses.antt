@@ -1,13 +1,36 @@
 -- What the looser relations give.
 use Rattle.std.proofs.Common.{◌≡◌, ℕ, suc, ◌+◌, ◌-◌, nat_eq, if◌then◌else◌, [], ◌∷◌, refl, ap, ap₂, subst, arith, codes}
-use Rattle.lf_core.specs.Term.{Universe, level_zero, level_succ, Term, bound, free, meta, sort, const, app, lam, pi, letin, lit}
+use Rattle.lf_core.specs.Term.{Universe, level_zero, level_succ, Term, bound, free, meta, sort, const, app, lam, pi, letin, lit, proj}
 use Rattle.lf_core.specs.Substitution.{raise, instantiate_at, instantiate}
 use Rattle.lf_core.specs.Scope.{Scoped}
-use Rattle.lf_core.specs.Environment.{Environment}
-use Rattle.lf_core.specs.Step.{beta}
-use Rattle.lf_core.specs.declared.binder.Binder.{Binder}
-use Rattle.lf_core.specs.declared.binder.BinderKind.TheVariants.{Explicit}
-use Rattle.lf_judgment_laws.specs.Loose.{Unfresh, reflexive, symmetric, transitive, applications, lambdas, step, UnfreshCollapses, Capturing, reflexive', symmetric', transitive', applications', lambdas', beta', CapturingCollapses, Partial, variable, sort_type, application, lambda, PartialCollapses}
+use Rattle.lf_rules.specs.Environment.{Environment}
+use Rattle.lf_rules.specs.Step.{beta}
+use Rattle.lf_name.specs.declared.binder.Binder.{Binder}
+use Rattle.lf_name.specs.declared.binder.BinderKind.TheVariants.{Explicit}
+use Rattle.lf_judgment_laws.specs.Loose.{
+  Unfresh,
+  reflexive,
+  symmetric,
+  transitive,
+  applications,
+  lambdas,
+  step,
+  UnfreshCollapses,
+  Capturing,
+  reflexive',
+  symmetric',
+  transitive',
+  applications',
+  lambdas',
+  beta',
+  CapturingCollapses,
+  Partial,
+  variable,
+  sort_type,
+  application,
+  lambda,
+  PartialCollapses,
+}
 use Rattle.lf_judgment_laws.proofs.Variables.{by_lt, raise-scoped}
 
 abbrev pub named : Binder
@@ -24,11 +47,13 @@ raise-zero d (lam x A b) = ap₂ (lam x) (raise-zero d A) (raise-zero (suc d) b)
 raise-zero d (pi x A b) = ap₂ (pi x) (raise-zero d A) (raise-zero (suc d) b)
 raise-zero d (letin x A v b) = cc (raise-zero d A, raise-zero d v, raise-zero (suc d) b)
 raise-zero d (lit n) = refl
+raise-zero d (proj s i t) = ap (proj s i) (raise-zero d t)
 
 all_free : (E : Environment) (a : Term) → Unfresh E [] a (free 0)
 all_free E a =
     let A : Term = lit 0 in
-    let id : Unfresh E [] (app (lam named A (bound 0)) a) a = subst (Unfresh E [] (app (lam named A (bound 0)) a)) (raise-zero 0 a) (step (beta named A (bound 0) a)) in
+    let id : Unfresh E [] (app (lam named A (bound 0)) a) a = subst (Unfresh E [] (app (lam named A (bound 0)) a)) (raise-zero 0 a)
+    (step (beta named A (bound 0) a)) in
     let out : Unfresh E [] (app (lam named A (free 0)) a) (free 0) = step (beta named A (free 0) a) in
     let body : Unfresh E (A ∷ []) (free 0) (free 0) = reflexive (free 0) in
     let fun : Unfresh E [] (lam named A (bound 0)) (lam named A (free 0)) = lambdas (reflexive A) body in
@@ -46,20 +71,26 @@ capturing_collapses m n =
     let Z : Term = lam named A (lam named A (app K (bound 1))) in
     -- the two functions are the same by a step of terms without loose variables
     let inner : Capturing (A ∷ A ∷ []) (app K (free 0)) (lam named A (free 0)) = beta' named A (lam named A (bound 1)) (free 0) in
-    let mid : Capturing (A ∷ []) (lam named A (app K (free 0))) (lam named A (lam named A (free 0))) = lambdas' (reflexive' A) (((tt, (tt, omega arith)), omega arith)) (tt, omega arith) inner in
+    let mid : Capturing (A ∷ []) (lam named A (app K (free 0))) (lam named A (lam named A (free 0))) = lambdas' (reflexive' A)
+    (((tt, (tt, omega arith)), omega arith)) (tt, omega arith) inner in
     let outer : Capturing [] Z Y = lambdas' (reflexive' A) (tt, ((tt, (tt, omega arith)), omega arith)) (tt, (tt, omega arith)) mid in
     -- and a loose variable put in is captured in the one and not in the other
     let left : Capturing [] (app Y (bound 0)) I = beta' named A (lam named A (lam named A (bound 2))) (bound 0) in
     let right : Capturing [] (app Z (bound 0)) (lam named A (app K (bound 0))) = beta' named A (lam named A (app K (bound 1))) (bound 0) in
-    let last : Capturing [] (lam named A (app K (bound 0))) K = lambdas' (reflexive' A) ((tt, (tt, omega arith)), omega arith) (tt, omega arith) (beta' named A (lam named A (bound 1)) (free 0)) in
-    let booleans : Capturing [] I K = transitive' (symmetric' left) (transitive' (applications' (symmetric' outer) (reflexive' (bound 0))) (transitive' right last)) in
-    let second : Capturing [] (app (app I (lit m)) (lit n)) (lit n) = transitive' (applications' (beta' named A (lam named A (bound 0)) (lit m)) (reflexive' (lit n))) (beta' named A (bound 0) (lit n)) in
-    let first : Capturing [] (app (app K (lit m)) (lit n)) (lit m) = transitive' (applications' (beta' named A (lam named A (bound 1)) (lit m)) (reflexive' (lit n))) (beta' named A (lit m) (lit n)) in
+    let last : Capturing [] (lam named A (app K (bound 0))) K = lambdas' (reflexive' A) ((tt, (tt, omega arith)), omega arith) (tt, omega arith)
+    (beta' named A (lam named A (bound 1)) (free 0)) in
+    let booleans : Capturing [] I K = transitive' (symmetric' left)
+    (transitive' (applications' (symmetric' outer) (reflexive' (bound 0))) (transitive' right last)) in
+    let second : Capturing [] (app (app I (lit m)) (lit n)) (lit n) = transitive'
+    (applications' (beta' named A (lam named A (bound 0)) (lit m)) (reflexive' (lit n))) (beta' named A (bound 0) (lit n)) in
+    let first : Capturing [] (app (app K (lit m)) (lit n)) (lit m) = transitive'
+    (applications' (beta' named A (lam named A (bound 1)) (lit m)) (reflexive' (lit n))) (beta' named A (lit m) (lit n)) in
     transitive' (symmetric' first) (transitive' (applications' (applications' (symmetric' booleans) (reflexive' (lit m))) (reflexive' (lit n))) second)
 
 -- Nothing is put into a term without loose variables.
 instantiate_at-scoped : (d k : ℕ) (t a : Term) → Scoped d k t → instantiate_at d t a ≡ t
-instantiate_at-scoped d k (bound i) a h = by_lt (λ r. r ≡ bound i) i d (bound i) (if nat_eq i d then raise 0 d a else bound (i - 1)) (λ e. refl) (λ e. absurd (omega arith))
+instantiate_at-scoped d k (bound i) a h = by_lt (λ r. r ≡ bound i) i d (bound i) (if nat_eq i d then raise 0 d a else bound (i - 1)) (λ e. refl)
+    (λ e. absurd (omega arith))
 instantiate_at-scoped d k (free i) a h = refl
 instantiate_at-scoped d k (meta i) a h = refl
 instantiate_at-scoped d k (sort l) a h = refl
@@ -67,8 +98,10 @@ instantiate_at-scoped d k (const c ls) a h = refl
 instantiate_at-scoped d k (app f t) a h = ap₂ app (instantiate_at-scoped d k f a h.0) (instantiate_at-scoped d k t a h.1)
 instantiate_at-scoped d k (lam x A b) a h = ap₂ (lam x) (instantiate_at-scoped d k A a h.0) (instantiate_at-scoped (suc d) k b a h.1)
 instantiate_at-scoped d k (pi x A b) a h = ap₂ (pi x) (instantiate_at-scoped d k A a h.0) (instantiate_at-scoped (suc d) k b a h.1)
-instantiate_at-scoped d k (letin x A v b) a h = cc (instantiate_at-scoped d k A a h.0, instantiate_at-scoped d k v a h.1, instantiate_at-scoped (suc d) k b a h.2)
+instantiate_at-scoped d k (letin x A v b) a h = cc
+    (instantiate_at-scoped d k A a h.0, instantiate_at-scoped d k v a h.1, instantiate_at-scoped (suc d) k b a h.2)
 instantiate_at-scoped d k (lit n) a h = refl
+instantiate_at-scoped d k (proj s i t) a h = ap (proj s i) (instantiate_at-scoped d k t a h)
 
 -- The identity on the types of a level, its body, and two types for it that are wrong, since the variable 0 isn't in the context.
 id : Universe → Term
@@ -96,7 +129,8 @@ free_typed : (E : Environment) → Partial E [] free_term (free 0)
 unfolding free_term
 free_typed E =
     let two : Universe = level_succ (level_succ level_zero) in
-    let f : Partial E [] (app (id two) (sort (level_succ level_zero))) (pi named (sort (level_succ level_zero)) (free 0)) = application (gives_free E two) (sort_type (level_succ level_zero)) in
+    let f : Partial E [] (app (id two) (sort (level_succ level_zero))) (pi named (sort (level_succ level_zero)) (free 0)) = application (gives_free E two)
+    (sort_type (level_succ level_zero)) in
     application f (sort_type level_zero)
 
 pub partial_collapses : PartialCollapses

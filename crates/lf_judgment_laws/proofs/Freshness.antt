@@ -1,7 +1,7 @@
 -- A name that is none of those of a list is fresh.
 use Rattle.std.proofs.Common.{◌≡◌, zero, suc, [], ◌∷◌, ap, arith, ◌∙◌, Contains}
 use Rattle.lf_core.specs.Term.{Path}
-use Rattle.lf_core.specs.Environment.{Environment, Fresh}
+use Rattle.lf_rules.specs.Environment.{Environment, Fresh}
 use Rattle.lf_core.specs.declared.constant.ConstInfo.{ConstInfo}
 
 abbrev pub NamesOther : Environment → Path → Type 0

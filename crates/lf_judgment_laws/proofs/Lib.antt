@@ -6,3 +6,5 @@ pub mod Collapses
 pub mod Proofs_alike
 pub mod Freshness
 pub mod Odd_names
+pub mod Propositions
+pub mod Numbers

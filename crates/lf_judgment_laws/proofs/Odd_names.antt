@@ -2,11 +2,29 @@
 use Rattle.std.proofs.Common.{◌≡◌, [], ◌∷◌, refl, ap, arith, inl, Some, None, length, slice_index_or, codes}
 use Rattle.lf_core.specs.Term.{Path, Universe, level_zero, level_succ, level_imax, Term, bound, free, sort, const, app, lam, pi, lit}
 use Rattle.lf_core.specs.Scope.{Scoped}
-use Rattle.lf_core.specs.Environment.{Environment, nat, nat_type, nat_succ, Declared}
+use Rattle.lf_rules.specs.Environment.{Environment, nat, nat_type, nat_succ, Declared}
 use Rattle.lf_core.specs.declared.literal.LitOut.TheVariants.{Nat}
-use Rattle.lf_core.specs.Step.{beta, delta, literal_succ, operation}
-use Rattle.lf_core.specs.Judgment.{Equal, symmetric, transitive, reflexive, applications, sorts, step, HasType, variable, sort_type, constant, application, lambda, pi_type, literal, conversion, has_type}
-use Rattle.lf_core.specs.Derived.{Derived, empty, with_axiom, with_value}
+use Rattle.lf_rules.specs.Step.{beta, delta, literal_succ, operation}
+use Rattle.lf_rules.specs.Judgment.{
+  Equal,
+  symmetric,
+  transitive,
+  reflexive,
+  applications,
+  sorts,
+  step,
+  HasType,
+  variable,
+  sort_type,
+  constant,
+  application,
+  lambda,
+  pi_type,
+  literal,
+  conversion,
+  has_type,
+}
+use Rattle.lf_rules.specs.Derived.{Derived, empty, with_axiom, with_value}
 use Rattle.lf_core.specs.declared.constant.ConstInfo.{ConstInfo}
 use Rattle.lf_core.specs.declared.constant.ConstKind.TheVariants.{Axiom, Def}
 use Rattle.lf_core.specs.declared.constant.Detail.TheVariants.{Plain}
@@ -34,19 +52,22 @@ truth_0 : (E : Environment) → HasType E [] truth prop
 truth_0 E =
     let p : HasType E (prop ∷ []) (free 0) prop = variable 0 refl in
     let q : HasType E (prop ∷ free 0 ∷ []) (free 0) prop = variable 0 refl in
-    conversion (pi_type one (level_imax level_zero level_zero) (sort_type level_zero) (omega arith, omega arith) (pi_type level_zero level_zero p (omega arith) q)) (sorts (λ s. refl))
+    conversion (pi_type one (level_imax level_zero level_zero) (sort_type level_zero) (omega arith, omega arith)
+    (pi_type level_zero level_zero p (omega arith) q)) (sorts (λ s. refl))
 
 truth_1 : (E : Environment) → HasType E (nat_type ∷ []) truth prop
 truth_1 E =
     let p : HasType E (nat_type ∷ prop ∷ []) (free 1) prop = variable 1 refl in
     let q : HasType E (nat_type ∷ prop ∷ free 1 ∷ []) (free 1) prop = variable 1 refl in
-    conversion (pi_type one (level_imax level_zero level_zero) (sort_type level_zero) (omega arith, omega arith) (pi_type level_zero level_zero p (omega arith) q)) (sorts (λ s. refl))
+    conversion (pi_type one (level_imax level_zero level_zero) (sort_type level_zero) (omega arith, omega arith)
+    (pi_type level_zero level_zero p (omega arith) q)) (sorts (λ s. refl))
 
 truth_2 : (E : Environment) → HasType E (nat_type ∷ nat_type ∷ []) truth prop
 truth_2 E =
     let p : HasType E (nat_type ∷ nat_type ∷ prop ∷ []) (free 2) prop = variable 2 refl in
     let q : HasType E (nat_type ∷ nat_type ∷ prop ∷ free 2 ∷ []) (free 2) prop = variable 2 refl in
-    conversion (pi_type one (level_imax level_zero level_zero) (sort_type level_zero) (omega arith, omega arith) (pi_type level_zero level_zero p (omega arith) q)) (sorts (λ s. refl))
+    conversion (pi_type one (level_imax level_zero level_zero) (sort_type level_zero) (omega arith, omega arith)
+    (pi_type level_zero level_zero p (omega arith) q)) (sorts (λ s. refl))
 
 falsity_0 : (E : Environment) → HasType E [] false_prop prop
 falsity_0 E =
@@ -84,8 +105,22 @@ twice_named =
       first = a;
       second = b;
       same_name = refl;
-      first_right = record { level = one; type = record { typed = sort_type level_zero; named = tt; levels = tt }; value = truth; has = refl; typed = record { typed = truth_0 []; named = (tt, (tt, tt)); levels = (tt, (tt, tt)) } };
-      second_right = record { level = one; type = record { typed = sort_type level_zero; named = tt; levels = tt }; value = false_prop; has = refl; typed = record { typed = falsity_0 (a ∷ []); named = (tt, tt); levels = (tt, tt) } };
+      first_right = record {
+        level = one;
+        type = record { typed = sort_type level_zero; named = tt; levels = tt };
+        value = truth;
+        has = refl;
+        typed = record
+            { typed = truth_0 []; named = (tt, (tt, tt)); levels = (tt, (tt, tt)) };
+      };
+      second_right = record {
+        level = one;
+        type = record { typed = sort_type level_zero; named = tt; levels = tt };
+        value = false_prop;
+        has = refl;
+        typed =
+            record { typed = falsity_0 (a ∷ []); named = (tt, tt); levels = (tt, tt) };
+      };
       binder = named;
       proof = trivial;
       proves = conversion (trivial_typed E) (transitive (symmetric p) q);
@@ -127,7 +162,8 @@ last_length : {p q : Path} → p ≡ q → length (slice_index_or p 1 []) ≡ le
 last_length e = ap (λ r. length (slice_index_or r 1 [])) e
 
 derived_numbers : Derived (numbers ∷ [])
-derived_numbers = with_axiom numbers empty (record { fresh = fresh_from [] nat tt; plain = refl; level = level_succ one; type = record { typed = sort_type one; named = tt; levels = tt } }) refl refl
+derived_numbers = with_axiom numbers empty
+    (record { fresh = fresh_from [] nat tt; plain = refl; level = level_succ one; type = record { typed = sort_type one; named = tt; levels = tt } }) refl refl
 
 derived_successor : Derived (numbers ∷ successor ∷ [])
 derived_successor =
@@ -135,7 +171,13 @@ derived_successor =
     let N : HasType E [] nat_type (sort one) = constant numbers [] (0, omega arith, refl) refl in
     let d : Declared E nat = (numbers, (0, omega arith, refl), refl) in
     with_value successor all_false derived_numbers
-    (record { fresh = fresh_from E succ_name ((λ e. omega (arith, path_length e)), tt); plain = refl; level = level_imax one one; type = record { typed = pi_type one one N tt (sort_type level_zero); named = (d, tt); levels = (tt, tt) } })
+    (record {
+      fresh = fresh_from E succ_name ((λ e. omega (arith, path_length e)), tt);
+      plain = refl;
+      level = level_imax one one;
+      type = record
+          { typed = pi_type one one N tt (sort_type level_zero); named = (d, tt); levels = (tt, tt) };
+    })
     (inl refl) refl
     (record { typed = lambda one N (tt, omega arith) tt (falsity_1 E); named = (d, (tt, tt)); levels = (tt, (tt, tt)) })
 
@@ -150,10 +192,20 @@ derived_odd =
       fresh = fresh_from E add_name ((λ e. omega (arith, path_length e)), ((λ e. omega (arith, last_length e)), tt));
       plain = refl;
       level = level_imax one (level_imax one one);
-      type = record { typed = pi_type one (level_imax one one) N (tt, tt) (pi_type one one N' tt (sort_type level_zero)); named = (d, (d, tt)); levels = (tt, (tt, tt)) };
+      type = record {
+        typed = pi_type one (level_imax one one) N (tt, tt) (pi_type one one N' tt (sort_type level_zero));
+        named = (d, (d, tt));
+        levels =
+            (tt, (tt, tt));
+      };
     })
     (inl refl) refl
-    (record { typed = lambda one N (tt, (tt, (omega arith, omega arith))) (tt, tt) (lambda one N' (tt, (omega arith, omega arith)) tt (truth_2 E)); named = (d, (d, (tt, (tt, tt)))); levels = (tt, (tt, (tt, (tt, tt)))) })
+    (record {
+      typed = lambda one N (tt, (tt, (omega arith, omega arith))) (tt, tt) (lambda one N' (tt, (omega arith, omega arith)) tt (truth_2 E));
+      named =
+          (d, (d, (tt, (tt, tt))));
+      levels = (tt, (tt, (tt, (tt, tt))));
+    })
 
 odd_equal : Equal odd [] truth false_prop
 odd_equal =
@@ -174,14 +226,16 @@ odd_equal =
     let q2 : HasType E [] (lam named nat_type truth) to_prop = lambda one N (tt, (omega arith, omega arith)) tt (truth_1 E) in
     let s2 : Scoped 0 0 (app (lam named nat_type truth) (lit 1)) = ((tt, (tt, (omega arith, omega arith))), tt) in
     let p3 : Equal E [] (app (lam named nat_type truth) (lit 1)) truth = step (beta named nat_type truth (lit 1)) s2 (has_type (application q2 (literal 1))) in
-    let p : Equal E [] (app (app (const add_name []) (lit 0)) (lit 1)) truth = transitive (applications (transitive (applications p1 (reflexive (lit 0))) p2) (reflexive (lit 1))) p3 in
+    let p : Equal E [] (app (app (const add_name []) (lit 0)) (lit 1)) truth = transitive
+    (applications (transitive (applications p1 (reflexive (lit 0))) p2) (reflexive (lit 1))) p3 in
     -- by the step of literals it is 1, the successor of 0, which is falsity
     let r1 : Equal E [] (app (app (const add_name []) (lit 0)) (lit 1)) (lit 1) = step (operation add_name 0 1 (Nat 1) refl) ((tt, tt), tt) (has_type sum) in
     let r2 : Equal E [] (lit 1) (app nat_succ (lit 0)) = step (literal_succ 0 (omega arith)) tt (has_type (literal 1)) in
     let r3 : Equal E [] nat_succ all_false = step (delta successor all_false [] (1, omega arith, refl) refl refl refl) tt (has_type next) in
     let s3 : Scoped 0 0 (app all_false (lit 0)) = ((tt, (tt, omega arith)), tt) in
     let r4 : Equal E [] (app all_false (lit 0)) false_prop = step (beta named nat_type false_prop (lit 0)) s3 (has_type (application next' (literal 0))) in
-    let r : Equal E [] (app (app (const add_name []) (lit 0)) (lit 1)) false_prop = transitive r1 (transitive r2 (transitive (applications r3 (reflexive (lit 0))) r4)) in
+    let r : Equal E [] (app (app (const add_name []) (lit 0)) (lit 1)) false_prop = transitive r1
+    (transitive r2 (transitive (applications r3 (reflexive (lit 0))) r4)) in
     transitive (symmetric p) r
 
 pub odd_numbers : OddNumbers

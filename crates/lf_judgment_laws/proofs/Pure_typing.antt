@@ -1,14 +1,88 @@
 -- The pure relations, and these.
 use Rattle.std.proofs.Common.{length, ◌≡◌, List, [], ◌∷◌, refl, sym, ap, subst}
-use Rattle.lf_core.specs.Term.{Universe, Term, sort, const, app, lam, pi, letin}
+use Rattle.lf_core.specs.Term.{Universe, Term, sort, const, app, lam, pi, letin, proj}
 use Rattle.lf_core.specs.Level.{AllSame}
 use Rattle.lf_core.specs.Spine.{apply}
 use Rattle.lf_core.specs.Scope.{Scoped}
-use Rattle.lf_core.specs.Environment.{Environment, Context, with, opened}
-use Rattle.lf_core.specs.Step.{Step, beta, zeta, delta, iota, literal_zero, literal_succ, operation}
-use Rattle.lf_core.specs.Judgment.{Equal, reflexive, symmetric, transitive, applications, lambdas, pis, lets, sorts, constants, step, eta, proof_irrelevance, declared_irrelevance, HasType, variable, sort_type, constant, application, lambda, pi_type, let_type, literal, conversion, Formed, has_type, is_type, equal_to, function, argument, lambda_domain, lambda_body, pi_domain, pi_codomain}
-use Rattle.lf_core.specs.declared.binder.Binder.{Binder}
-use Rattle.lf_judgment_laws.specs.Pure.{PureEqual, reflexive', symmetric', transitive', applications', lambdas', pis', lets', sorts', constants', beta', step', eta', proof_irrelevance', declared_irrelevance', IsLambda, PureType, variable', sort_type', constant', application', lambda', pi_type', let_type', literal', conversion', WellFormed, nothing, more, Metatheory, TypingIsPure}
+use Rattle.lf_rules.specs.Environment.{Environment, Context, with, opened}
+use Rattle.lf_rules.specs.Step.{Step, beta, zeta, delta, iota, literal_zero, literal_succ, operation, projection as projection_step}
+use Rattle.lf_rules.specs.Judgment.{
+  Equal,
+  reflexive,
+  symmetric,
+  transitive,
+  applications,
+  lambdas,
+  pis,
+  lets,
+  sorts,
+  constants,
+  step,
+  eta,
+  proof_irrelevance,
+  declared_irrelevance,
+  projected,
+  eta_structure,
+  HasType,
+  variable,
+  sort_type,
+  constant,
+  application,
+  lambda,
+  pi_type,
+  let_type,
+  literal,
+  projection,
+  conversion,
+  Formed,
+  has_type,
+  is_type,
+  equal_to,
+  function,
+  argument,
+  lambda_domain,
+  lambda_body,
+  pi_domain,
+  pi_codomain,
+  projected_part,
+}
+use Rattle.lf_name.specs.declared.binder.Binder.{Binder}
+use Rattle.lf_judgment_laws.specs.Pure.{
+  PureEqual,
+  reflexive',
+  symmetric',
+  transitive',
+  applications',
+  lambdas',
+  pis',
+  lets',
+  sorts',
+  constants',
+  beta',
+  step',
+  eta',
+  proof_irrelevance',
+  declared_irrelevance',
+  projected',
+  eta_structure',
+  IsLambda,
+  PureType,
+  variable',
+  sort_type',
+  constant',
+  application',
+  lambda',
+  pi_type',
+  let_type',
+  literal',
+  projection',
+  conversion',
+  WellFormed,
+  nothing,
+  more,
+  Metatheory,
+  TypingIsPure,
+}
 use Rattle.lf_judgment_laws.proofs.Scopes.{typed_scoped}
 
 -- The pure relations are no more than these.
@@ -23,6 +97,7 @@ mutual
   of_type E (pi_type' u v a s b) = pi_type u v (of_type E a) s (of_type E b)
   of_type E (let_type' u a v s b) = let_type u (of_type E a) (of_type E v) s (of_type E b)
   of_type E (literal' n) = literal n
+  of_type E (projection' s i ls ps h n m l d) = projection s i ls ps (of_type E h) n m l d
   of_type E (conversion' t p) = conversion (of_type E t) (of_equal E p)
 
   of_equal : (E : Environment) {C : Context} {a b : Term} → PureEqual E C a b → Equal E C a b
@@ -36,9 +111,11 @@ mutual
   of_equal E (sorts' p) = sorts p
   of_equal E (constants' c t p) = constants c p
   of_equal E (beta' {x = x} {A = A} {b = b} {a = a} B u t s r h k) =
-      let w = application (lambda u (of_type E t) s r (of_type E h)) (of_type E k) in
+      let w = application {B = B} (lambda u (of_type E t) s r (of_type E h)) (of_type E k) in
       step (beta x A b a) (typed_scoped E w) (has_type w)
   of_equal E (step' p n t s) = let h = of_type E t in step p (typed_scoped E h) (has_type h)
+  of_equal E (projected' S i t p) = projected S i (of_equal E p)
+  of_equal E (eta_structure' s ls ps h n m) = eta_structure s ls ps (of_type E h) n m
   of_equal E (eta' t) = eta (of_type E t)
   of_equal E (proof_irrelevance' t s p) = proof_irrelevance (of_type E t) (of_type E s) (of_type E p)
   of_equal E (declared_irrelevance' t s p) = declared_irrelevance (of_type E t) (of_type E s) p
@@ -47,9 +124,11 @@ mutual
 
 abbrev Parts : Environment → Context → Term → Type 0
 Parts E C (app f a) = (x : Binder) × (A : Term) × (B : Term) × PureType E C f (pi x A B) × PureType E C a A
-Parts E C (lam x A b) = (u : Universe) × (B : Term) × PureType E C A (sort u) × PureType E (with C A) (opened C b) (opened C B) × Scoped 1 (length C) b × Scoped 1 (length C) B
+Parts E C (lam x A b) = (u : Universe) × (B : Term) × PureType E C A (sort u) × PureType E (with C A) (opened C b) (opened C B) × Scoped 1 (length C) b × Scoped
+    1 (length C) B
 Parts E C (pi x A b) = (u : Universe) × (v : Universe) × PureType E C A (sort u) × PureType E (with C A) (opened C b) (sort v)
 Parts E C (letin x A v b) = (u : Universe) × PureType E C A (sort u) × PureType E C v A
+Parts E C (proj S i t) = (T : Term) × PureType E C t T
 Parts E C _ = Unit {0}
 
 parts : (E : Environment) {C : Context} {t A : Term} → PureType E C t A → Parts E C t
@@ -61,6 +140,7 @@ parts E (lambda' {B = B} u a s r b) = (u, B, a, b, s, r)
 parts E (pi_type' u v a s b) = (u, v, a, b)
 parts E (let_type' u a v s b) = (u, a, v)
 parts E (literal' n) = tt
+parts E (projection' {S = S} s i ls ps h n m l d) = (apply (const S ls) ps, h)
 parts E (conversion' t p) = parts E t
 
 -- Contexts.
@@ -101,7 +181,7 @@ step_pure : (E : Environment) → Metatheory E → {C : Context} {a b : Term} �
 step_pure E m (beta x A b a) h c =
     let p = parts E h.1 in
     let q = parts E p.3 in
-    let f = lambda' q.0 q.2 q.4 q.5 q.3 in
+    let f = lambda' {B = q.1} q.0 q.2 q.4 q.5 q.3 in
     beta' q.1 q.0 q.2 q.4 q.5 q.3 (conversion' p.4 (m.injective c (m.unique c p.3 f)))
 step_pure E m (zeta x A v b) h c = let s = zeta x A v b in step' s (λ r. r) h.1 (m.step_keeps c s (λ r. r) h.1)
 step_pure E m (delta k v ls w q e l) h c = let s = delta k v ls w q e l in step' s (λ r. r) h.1 (m.step_keeps c s (λ r. r) h.1)
@@ -111,6 +191,7 @@ step_pure E m (iota k d ind params minors indices index own fields rules rule ls
     step' s no h.1 (m.step_keeps c s no h.1)
 step_pure E m literal_zero h c = step' literal_zero (λ r. r) h.1 (m.step_keeps c literal_zero (λ r. r) h.1)
 step_pure E m (literal_succ n b) h c = step' (literal_succ n b) (λ r. r) h.1 (m.step_keeps c (literal_succ n b) (λ r. r) h.1)
+step_pure E m (projection_step k i x ms ys l e) h c = let s = projection_step k i x ms ys l e in step' s (λ r. r) h.1 (m.step_keeps c s (λ r. r) h.1)
 step_pure E m (operation op i j r q) h c = let s = operation op i j r q in step' s (λ r. r) h.1 (m.step_keeps c s (λ r. r) h.1)
 
 abbrev Either : Environment → Context → Term → Term → Type 0
@@ -126,6 +207,7 @@ mutual
   type_pure E m (pi_type u v a s b) c = let h = type_pure E m a c in pi_type' u v h s (type_pure E m b (more u c h))
   type_pure E m (let_type u a v s b) c = let_type' u (type_pure E m a c) (type_pure E m v c) s (type_pure E m b c)
   type_pure E m (literal n) c = literal' n
+  type_pure E m (projection s i ls ps h n k l d) c = projection' s i ls ps (type_pure E m h c) n k l d
   type_pure E m (conversion {A = A} t p) c =
       let h = type_pure E m t c in
       let k = m.type_is_type c h in
@@ -202,6 +284,10 @@ mutual
       let h = formed_pure E m f c in
       let x = step_pure E m p h c in
       ((λ t. x), (λ t. x))
+  equal_pure E m (projected S i p) c =
+      let h = equal_pure E m p c in
+      ((λ t. projected' S i t.1 (h.0 (parts E t.1))), (λ t. symmetric' (projected' S i t.1 (symmetric' (h.1 (parts E t.1))))))
+  equal_pure E m (eta_structure s ls ps h n k) c = let x = eta_structure' s ls ps (type_pure E m h c) n k in ((λ t. x), (λ t. x))
   equal_pure E m (eta t) c = let x = eta' (type_pure E m t c) in ((λ k. x), (λ k. x))
   equal_pure E m (proof_irrelevance t s p) c = let x = proof_irrelevance' (type_pure E m t c) (type_pure E m s c) (type_pure E m p c) in ((λ k. x), (λ k. x))
   equal_pure E m (declared_irrelevance t s p) c = let x = declared_irrelevance' (type_pure E m t c) (type_pure E m s c) p in ((λ k. x), (λ k. x))
@@ -218,6 +304,7 @@ mutual
   formed_pure E m (lambda_body {C = C} {A = A} f) c = let q = parts E (formed_pure E m f (shorter E C A c)).1 in (opened C q.1, q.3)
   formed_pure E m (pi_domain f) c = let q = parts E (formed_pure E m f c).1 in (sort q.0, q.2)
   formed_pure E m (pi_codomain {C = C} {A = A} f) c = let q = parts E (formed_pure E m f (shorter E C A c)).1 in (sort q.1, q.3)
+  formed_pure E m (projected_part f) c = parts E (formed_pure E m f c).1
 
 pub typing_is_pure : TypingIsPure
 typing_is_pure E = record { at_least = λ C t A h. of_type E h; no_more = λ t A m h. type_pure E m h nothing }

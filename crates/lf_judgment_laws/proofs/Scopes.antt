@@ -1,17 +1,56 @@
 -- Typing and equality keep to the variables of the context.
-use Rattle.std.proofs.Common.{ℕ, ◌+◌, ◌++◌, ◌↔◌, List, true, false, length, subst, take, drop, zero-le, arith}
+use Rattle.std.proofs.Common.{ℕ, zero, suc, [], ◌∷◌, ◌+◌, ◌++◌, ◌↔◌, List, true, false, length, subst, take, drop, zero-le, arith}
 use Rattle.std.proofs.lemmas.Option.{slice_get_within}
-use Rattle.lf_core.specs.Term.{Universe, Term, const}
+use Rattle.lf_core.specs.Term.{Path, Universe, Term, const, proj}
 use Rattle.lf_core.specs.Substitution.{level_instantiate}
+use Rattle.lf_rules.specs.Structure.{projections, DomainAt, here, there}
 use Rattle.lf_core.specs.Scope.{Scoped}
-use Rattle.lf_core.specs.Environment.{Environment, Context}
+use Rattle.lf_rules.specs.Environment.{Environment, Context}
 use Rattle.lf_core.specs.declared.literal.LitOut.{LitOut}
 use Rattle.lf_core.specs.declared.literal.LitOut.TheVariants.{Nat, Bool}
-use Rattle.lf_core.specs.Step.{Step, beta, zeta, delta, iota, literal_zero, literal_succ, operation, literal_term}
-use Rattle.lf_core.specs.Judgment.{Equal, reflexive, symmetric, transitive, applications, lambdas, pis, lets, sorts, constants, step, eta, proof_irrelevance, declared_irrelevance, HasType, variable, sort_type, constant, application, lambda, pi_type, let_type, literal, conversion}
+use Rattle.lf_rules.specs.Step.{Step, beta, zeta, delta, iota, literal_zero, literal_succ, operation, projection as projection_step, literal_term}
+use Rattle.lf_rules.specs.Judgment.{
+  Equal,
+  reflexive,
+  symmetric,
+  transitive,
+  applications,
+  lambdas,
+  pis,
+  lets,
+  sorts,
+  constants,
+  step,
+  eta,
+  proof_irrelevance,
+  declared_irrelevance,
+  projected,
+  eta_structure,
+  HasType,
+  variable,
+  sort_type,
+  constant,
+  application,
+  lambda,
+  pi_type,
+  let_type,
+  literal,
+  projection,
+  conversion,
+}
 use Rattle.lf_core.specs.declared.constant.Detail.TheVariants.{Rec}
 use Rattle.lf_judgment_laws.specs.InScope.{RulesClosed, EnvironmentClosed, AllScoped, ContextScoped, KeepsScope}
-use Rattle.lf_judgment_laws.proofs.Variables.{scoped_up, scoped_instantiate, all_get, scoped_apply, scoped_levels, all_append, all_take, all_drop, scoped_of_apply}
+use Rattle.lf_judgment_laws.proofs.Variables.{
+  scoped_up,
+  scoped_instantiate,
+  all_get,
+  scoped_apply,
+  scoped_levels,
+  all_append,
+  all_take,
+  all_drop,
+  scoped_of_apply,
+}
 
 abbrev In : Context → Term → Type 0
 In C t = Scoped 0 (length C) t
@@ -37,6 +76,17 @@ step_scoped E cl k (iota c d ind params minors indices index own fields rules ru
 step_scoped E cl k literal_zero h = tt
 step_scoped E cl k (literal_succ n b) h = (tt, tt)
 step_scoped E cl k (operation op m n r q) h = value_scoped k r
+step_scoped E cl k (projection_step s i x ms ys l e) h =
+    let g : Scoped 0 k (const s.constructor.name ms) × AllScoped k ys = scoped_of_apply k (const s.constructor.name ms) ys h in
+    all_get k (drop s.params ys) i x (all_drop k s.params ys g.1) e
+
+projections_scoped : (k : ℕ) (S : Path) (n : ℕ) (t : Term) → Scoped 0 k t → AllScoped k (projections S n t)
+projections_scoped k S zero t h = tt
+projections_scoped k S (suc n) t h = all_append k (projections S n t) (proj S n t ∷ []) (projections_scoped k S n t h) (h, tt)
+
+domain_scoped : (k : ℕ) {T A : Term} {ys : List Term} → DomainAt T ys A → Scoped 0 k T → AllScoped k ys → Scoped 0 k A
+domain_scoped k here h s = h.0
+domain_scoped k (there {B = B} {y = y} d) h s = domain_scoped k d (scoped_instantiate k B y h.1 s.0) s.1
 
 mutual
   pub typed_in : (E : Environment) → EnvironmentClosed E → {C : Context} {t A : Term} → HasType E C t A → ContextScoped C → In C t × In C A
@@ -51,6 +101,13 @@ mutual
   typed_in E cl (pi_type u v a s b) fine = (((typed_in E cl a fine).0, s), tt)
   typed_in E cl (let_type u a v s b) fine = (((typed_in E cl a fine).0, (typed_in E cl v fine).0, s), (typed_in E cl b fine).1)
   typed_in E cl (literal n) fine = (tt, tt)
+  typed_in E cl {C = C} (projection {t = t} {S = S} s i ls ps h n m q d) fine =
+      let r = typed_in E cl h fine in
+      let a = scoped_of_apply (length C) (const S ls) ps r.1 in (
+        r.0,
+        domain_scoped (length C) d (closed_at (length C) ls s.constructor.ty (cl s.constructor s.constructor_within).ty)
+            (all_append (length C) ps (projections S i t) a.1 (projections_scoped (length C) S i t r.0)),
+      )
   typed_in E cl (conversion t p) fine = let h = typed_in E cl t fine in (h.0, (equal_in E cl p fine).0 h.1)
 
   pub equal_in : (E : Environment) → EnvironmentClosed E → {C : Context} {a b : Term} → Equal E C a b → ContextScoped C → (In C a ↔ In C b)
@@ -76,6 +133,14 @@ mutual
   equal_in E cl (eta {t = t} p) fine =
       let h = typed_in E cl p fine in
       ((λ s. (h.1.0, (scoped_up t zero-le (omega arith) h.0, omega arith))), (λ s. h.0))
+  equal_in E cl (projected S i p) fine = equal_in E cl p fine
+  equal_in E cl {C = C} (eta_structure {t = t} {S = S} s ls ps h n m) fine =
+      let r = typed_in E cl h fine in
+      let a = scoped_of_apply (length C) (const S ls) ps r.1 in (
+        (λ z. scoped_apply (length C) (const s.constructor.name ls) (ps ++ projections S s.fields t) tt
+            (all_append (length C) ps (projections S s.fields t) a.1 (projections_scoped (length C) S s.fields t r.0))),
+        (λ z. r.0),
+      )
   equal_in E cl (proof_irrelevance p q r) fine =
       let h = (typed_in E cl p fine).0 in
       let k = (typed_in E cl q fine).0 in
@@ -98,4 +163,5 @@ typed_scoped E (lambda u a s r b) = (typed_scoped E a, s)
 typed_scoped E (pi_type u v a s b) = (typed_scoped E a, s)
 typed_scoped E (let_type u a v s b) = (typed_scoped E a, typed_scoped E v, s)
 typed_scoped E (literal n) = tt
+typed_scoped E (projection s i ls ps h n m q d) = typed_scoped E h
 typed_scoped E (conversion t p) = typed_scoped E t

@@ -1,11 +1,39 @@
 -- Where the variables of a term lie, through binders and back.
-use Rattle.std.proofs.Common.{◌≡◌, ℕ, zero, suc, ◌+◌, ◌-◌, ◌<◌, ◌≤◌, nat_eq, nat_lt, if◌then◌else◌, List, [], ◌∷◌, ◌++◌, length, length-append, refl, sym, ap, ap₂, subst, arith, Some, slice_get, take, drop}
+use Rattle.std.proofs.Common.{
+  ◌≡◌,
+  ℕ,
+  zero,
+  suc,
+  ◌+◌,
+  ◌-◌,
+  ◌<◌,
+  ◌≤◌,
+  nat_eq,
+  nat_lt,
+  if◌then◌else◌,
+  List,
+  [],
+  ◌∷◌,
+  ◌++◌,
+  length,
+  length-append,
+  refl,
+  sym,
+  ap,
+  ap₂,
+  subst,
+  arith,
+  Some,
+  slice_get,
+  take,
+  drop,
+}
 use Rattle.std.proofs.lemmas.Bool.{cond_both, eqb-true, eqb-false, ltb-true, ltb-false}
-use Rattle.lf_core.specs.Term.{Universe, Term, bound, free, meta, sort, const, app, lam, pi, letin, lit}
+use Rattle.lf_core.specs.Term.{Universe, Term, bound, free, meta, sort, const, app, lam, pi, letin, lit, proj}
 use Rattle.lf_core.specs.Substitution.{raise, instantiate_variable, instantiate_at, instantiate, abstract_at, abstract, level_instantiate}
 use Rattle.lf_core.specs.Spine.{apply, head_of, arguments_before, arguments_of}
 use Rattle.lf_core.specs.Scope.{Scoped}
-use Rattle.lf_core.specs.Environment.{Context, with, opened}
+use Rattle.lf_rules.specs.Environment.{Context, with, opened}
 use Rattle.lf_judgment_laws.specs.InScope.{AllScoped, ContextScoped}
 
 pub by_eq : {X : Type 0} (P : X → Type 0) (i k : ℕ) (x y : X) → (i ≡ k → P x) → ((i ≡ k → ⊥) → P y) → P (if nat_eq i k then x else y)
@@ -25,6 +53,7 @@ scoped_up (lam x A b) p q h = (scoped_up A p q h.0, scoped_up b (omega arith) q 
 scoped_up (pi x A b) p q h = (scoped_up A p q h.0, scoped_up b (omega arith) q h.1)
 scoped_up (letin x A v b) p q h = (scoped_up A p q h.0, scoped_up v p q h.1, scoped_up b (omega arith) q h.2)
 scoped_up (lit n) p q h = tt
+scoped_up (proj s i t) p q h = scoped_up t p q h
 
 -- Nothing is raised in a term whose loose variables are below d.
 pub raise-scoped : (d n k : ℕ) (t : Term) → Scoped d k t → raise d n t ≡ t
@@ -38,6 +67,7 @@ raise-scoped d n k (lam x A b) h = ap₂ (lam x) (raise-scoped d n k A h.0) (rai
 raise-scoped d n k (pi x A b) h = ap₂ (pi x) (raise-scoped d n k A h.0) (raise-scoped (suc d) n k b h.1)
 raise-scoped d n k (letin x A v b) h = cc (raise-scoped d n k A h.0, raise-scoped d n k v h.1, raise-scoped (suc d) n k b h.2)
 raise-scoped d n k (lit m) h = refl
+raise-scoped d n k (proj s i t) h = ap (proj s i) (raise-scoped d n k t h)
 
 scoped_variable : (d k : ℕ) (a : Term) (i : ℕ) → i < suc d → Scoped 0 k a → Scoped d k (instantiate_variable d a i)
 scoped_variable d k a i h s =
@@ -55,8 +85,10 @@ scoped_instantiate_at d k (const c ms) a h s = tt
 scoped_instantiate_at d k (app f t) a h s = (scoped_instantiate_at d k f a h.0 s, scoped_instantiate_at d k t a h.1 s)
 scoped_instantiate_at d k (lam x A b) a h s = (scoped_instantiate_at d k A a h.0 s, scoped_instantiate_at (suc d) k b a h.1 s)
 scoped_instantiate_at d k (pi x A b) a h s = (scoped_instantiate_at d k A a h.0 s, scoped_instantiate_at (suc d) k b a h.1 s)
-scoped_instantiate_at d k (letin x A v b) a h s = (scoped_instantiate_at d k A a h.0 s, scoped_instantiate_at d k v a h.1 s, scoped_instantiate_at (suc d) k b a h.2 s)
+scoped_instantiate_at d k (letin x A v b) a h s =
+    (scoped_instantiate_at d k A a h.0 s, scoped_instantiate_at d k v a h.1 s, scoped_instantiate_at (suc d) k b a h.2 s)
 scoped_instantiate_at d k (lit n) a h s = tt
+scoped_instantiate_at d k (proj r i t) a h s = scoped_instantiate_at d k t a h s
 
 pub scoped_instantiate : (k : ℕ) (b a : Term) → Scoped 1 k b → Scoped 0 k a → Scoped 0 k (instantiate b a)
 scoped_instantiate k b a h s = scoped_instantiate_at 0 k b a h s
@@ -72,6 +104,7 @@ scoped_abstract_at d k (lam x A b) h = (scoped_abstract_at d k A h.0, scoped_abs
 scoped_abstract_at d k (pi x A b) h = (scoped_abstract_at d k A h.0, scoped_abstract_at (suc d) k b h.1)
 scoped_abstract_at d k (letin x A v b) h = (scoped_abstract_at d k A h.0, scoped_abstract_at d k v h.1, scoped_abstract_at (suc d) k b h.2)
 scoped_abstract_at d k (lit n) h = tt
+scoped_abstract_at d k (proj s i t) h = scoped_abstract_at d k t h
 
 variable_back : (d k i : ℕ) → instantiate_at d (if nat_eq i k then bound d else free i) (free k) ≡ free i
 variable_back d k i =
@@ -93,8 +126,10 @@ instantiate_at-abstract_at d k l (const c ms) h = refl
 instantiate_at-abstract_at d k l (app f a) h = ap₂ app (instantiate_at-abstract_at d k l f h.0) (instantiate_at-abstract_at d k l a h.1)
 instantiate_at-abstract_at d k l (lam x A b) h = ap₂ (lam x) (instantiate_at-abstract_at d k l A h.0) (instantiate_at-abstract_at (suc d) k l b h.1)
 instantiate_at-abstract_at d k l (pi x A b) h = ap₂ (pi x) (instantiate_at-abstract_at d k l A h.0) (instantiate_at-abstract_at (suc d) k l b h.1)
-instantiate_at-abstract_at d k l (letin x A v b) h = cc (instantiate_at-abstract_at d k l A h.0, instantiate_at-abstract_at d k l v h.1, instantiate_at-abstract_at (suc d) k l b h.2)
+instantiate_at-abstract_at d k l (letin x A v b) h = cc
+    (instantiate_at-abstract_at d k l A h.0, instantiate_at-abstract_at d k l v h.1, instantiate_at-abstract_at (suc d) k l b h.2)
 instantiate_at-abstract_at d k l (lit n) h = refl
+instantiate_at-abstract_at d k l (proj s i t) h = ap (proj s i) (instantiate_at-abstract_at d k l t h)
 
 pub all_get : (k : ℕ) (xs : List Term) (i : ℕ) (A : Term) → AllScoped k xs → slice_get xs i ≡ Some A → Scoped 0 k A
 all_get k [] i A h e = absurd (cc)
@@ -156,6 +191,7 @@ scoped_levels d k ls (lam x A b) h = (scoped_levels d k ls A h.0, scoped_levels 
 scoped_levels d k ls (pi x A b) h = (scoped_levels d k ls A h.0, scoped_levels (suc d) k ls b h.1)
 scoped_levels d k ls (letin x A v b) h = (scoped_levels d k ls A h.0, scoped_levels d k ls v h.1, scoped_levels (suc d) k ls b h.2)
 scoped_levels d k ls (lit n) h = tt
+scoped_levels d k ls (proj s i t) h = scoped_levels d k ls t h
 
 pub all_append : (k : ℕ) (xs ys : List Term) → AllScoped k xs → AllScoped k ys → AllScoped k (xs ++ ys)
 all_append k [] ys h g = g

@@ -1,15 +1,16 @@
 -- What holds over an environment holds over each that tells at least as much.
-use Rattle.std.specs.Prelude.{◌≡◌, Bool, Some, Contains}
-use Rattle.lf_core.specs.Term.{Term}
-use Rattle.lf_core.specs.Environment.{Environment, Context, NamesDeclared}
-use Rattle.lf_core.specs.Judgment.{Equal, HasType, Formed}
+use Rattle.std.specs.Prelude.{◌≡◌, Bool, Some, List, [], ◌∷◌, Contains}
+use Rattle.lf_core.specs.Term.{Path, Term}
+use Rattle.lf_rules.specs.Environment.{Environment, Context, NamesDeclared}
+use Rattle.lf_rules.specs.Judgment.{Equal, HasType, Formed}
 use Rattle.lf_core.specs.declared.constant.ConstInfo.{ConstInfo}
 use Rattle.lf_core.specs.declared.constant.Detail.{Detail}
 use Rattle.lf_core.specs.declared.constant.Detail.TheVariants.{Ind}
 
--- The same, but that a type may be found later to eliminate into every sort.
+-- The same, but that a type may have its constructors later, and may be found later to eliminate into every sort.
 abbrev pub SameDetail : Detail → Detail → Type 0
-SameDetail (Ind params indices constructors large) e = (later : Bool) × (e ≡ Ind params indices constructors later)
+SameDetail (Ind params indices [] large) e = (names : List Path) × (later : Bool) × (e ≡ Ind params indices names later)
+SameDetail (Ind params indices (n ∷ ns) large) e = (later : Bool) × (e ≡ Ind params indices (n ∷ ns) later)
 SameDetail d e = d ≡ e
 
 -- The second constant is the first, or the first with its value.

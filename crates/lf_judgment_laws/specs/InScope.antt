@@ -2,8 +2,8 @@
 use Rattle.std.specs.Prelude.{◌≡◌, ◌↔◌, ℕ, Some, List, [], ◌∷◌, length, slice_get, Contains}
 use Rattle.lf_core.specs.Term.{Term}
 use Rattle.lf_core.specs.Scope.{Scoped}
-use Rattle.lf_core.specs.Environment.{Environment, Context}
-use Rattle.lf_core.specs.Judgment.{Equal, HasType}
+use Rattle.lf_rules.specs.Environment.{Environment, Context}
+use Rattle.lf_rules.specs.Judgment.{Equal, HasType}
 use Rattle.lf_core.specs.declared.constant.ConstInfo.{ConstInfo}
 use Rattle.lf_core.specs.declared.constant.Detail.{Detail}
 use Rattle.lf_core.specs.declared.constant.Detail.TheVariants.{Rec}

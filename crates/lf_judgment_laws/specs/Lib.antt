@@ -4,3 +4,5 @@ pub mod Loose
 pub mod Untyped
 pub mod Names
 pub mod Pure
+pub mod Propositions
+pub mod Numbers

@@ -1,10 +1,10 @@
 -- Why names are fresh, and why the numbers have to be the ordinary ones: what follows where they aren't.
 use Rattle.std.specs.Prelude.{◌≡◌, Some, [], ◌∷◌}
 use Rattle.lf_core.specs.Term.{Universe, level_zero, Term, bound, sort, pi}
-use Rattle.lf_core.specs.Environment.{Environment}
-use Rattle.lf_core.specs.Judgment.{HasType}
-use Rattle.lf_core.specs.Derived.{Checked, Derived}
-use Rattle.lf_core.specs.declared.binder.Binder.{Binder}
+use Rattle.lf_rules.specs.Environment.{Environment}
+use Rattle.lf_rules.specs.Judgment.{HasType}
+use Rattle.lf_rules.specs.Derived.{Checked, Derived}
+use Rattle.lf_name.specs.declared.binder.Binder.{Binder}
 use Rattle.lf_core.specs.declared.constant.ConstInfo.{ConstInfo}
 
 -- That each proposition holds.

@@ -4,9 +4,9 @@ use Rattle.std.specs.Prelude.{◌≡◌, ℕ, Some, [], length, slice_get}
 use Rattle.lf_core.specs.Term.{Universe, level_zero, level_succ, level_imax, Term, free, sort, app, lam, pi}
 use Rattle.lf_core.specs.Level.{Same}
 use Rattle.lf_core.specs.Scope.{Scoped}
-use Rattle.lf_core.specs.Environment.{Environment, Context, with, opened}
-use Rattle.lf_core.specs.Step.{Step}
-use Rattle.lf_core.specs.declared.binder.Binder.{Binder}
+use Rattle.lf_rules.specs.Environment.{Environment, Context, with, opened}
+use Rattle.lf_rules.specs.Step.{Step}
+use Rattle.lf_name.specs.declared.binder.Binder.{Binder}
 
 mutual
   pub data UntypedEqual (E : Environment) : Context → Term → Term → Type 0 where
@@ -21,8 +21,10 @@ mutual
   pub data UntypedType (E : Environment) : Context → Term → Term → Type 0 where
     variable : {C : Context} {A : Term} (k : ℕ) → slice_get C k ≡ Some A → UntypedType E C (free k) A
     sort_type : {C : Context} (l : Universe) → UntypedType E C (sort l) (sort (level_succ l))
-    lambda : {C : Context} {x : Binder} {A b B : Term} (u : Universe) → UntypedType E C A (sort u) → Scoped 1 (length C) b → Scoped 1 (length C) B → UntypedType E (with C A) (opened C b) (opened C B) → UntypedType E C (lam x A b) (pi x A B)
-    pi_type : {C : Context} {x : Binder} {A B : Term} (u v : Universe) → UntypedType E C A (sort u) → Scoped 1 (length C) B → UntypedType E (with C A) (opened C B) (sort v) → UntypedType E C (pi x A B) (sort (level_imax u v))
+    lambda : {C : Context} {x : Binder} {A b B : Term} (u : Universe) → UntypedType E C A (sort u) → Scoped 1 (length C) b → Scoped 1 (length C) B
+        → UntypedType E (with C A) (opened C b) (opened C B) → UntypedType E C (lam x A b) (pi x A B)
+    pi_type : {C : Context} {x : Binder} {A B : Term} (u v : Universe) → UntypedType E C A (sort u) → Scoped 1 (length C) B
+        → UntypedType E (with C A) (opened C B) (sort v) → UntypedType E C (pi x A B) (sort (level_imax u v))
     conversion : {C : Context} {t A B : Term} → UntypedType E C t A → UntypedEqual E C A B → UntypedType E C t B
 
 pub record Alike (E : Environment) : Type 0 where

@@ -5,6 +5,8 @@ ghost use Rattle.lf_judgment_laws.specs.Growth.{RelationsGrow};
 ghost use Rattle.lf_judgment_laws.specs.InScope.{RelationsKeepScope};
 ghost use Rattle.lf_judgment_laws.specs.Loose.{CapturingCollapses, PartialCollapses, UnfreshCollapses};
 ghost use Rattle.lf_judgment_laws.specs.Names.{OddNumbers, TwiceNamed};
+ghost use Rattle.lf_judgment_laws.specs.Numbers.{PureNumbers};
+ghost use Rattle.lf_judgment_laws.specs.Propositions.{PropositionsCollapse, StructuresAreNoPropositions};
 ghost use Rattle.lf_judgment_laws.specs.Pure.{TypingIsPure};
 ghost use Rattle.lf_judgment_laws.specs.Untyped.{UntypedCollapses};
 
@@ -18,7 +20,8 @@ pub fn relations_grow_with_the_environment()
     ensures { RelationsGrow }
 {}
 
-/// Typing is the one in which both sides of each equation have a type, where that has the properties known of it.
+/// Carneiro's rules, with rules for literals, projections and eta for structures beside his, in which both sides of each equation have a
+/// type, imply these; and these imply them where they have the properties that are known of his.
 pub fn typing_is_the_pure_one()
     ensures { TypingIsPure }
 {}
@@ -51,4 +54,19 @@ pub fn names_must_be_fresh()
 /// Why the base is part of what is believed: where the constants that literals name are others, falsity has a proof.
 pub fn numbers_must_be_ordinary()
     ensures { OddNumbers }
+{}
+
+/// Why structures are never propositions.
+pub fn projections_of_propositions_make_all_numbers_equal()
+    ensures { PropositionsCollapse }
+{}
+
+/// Structures are never propositions.
+pub fn structures_are_never_propositions()
+    ensures { StructuresAreNoPropositions }
+{}
+
+/// The environments of which `typing_is_the_pure_one` says anything beyond that are those with `Nat`; one is worked.
+pub fn pure_typing_speaks_of_numbers()
+    ensures { PureNumbers }
 {}

@@ -44,7 +44,8 @@ module _ (names : List ℕ) (s : Assignment) where
 
     far_alike : Alike (Among names) s (assignment names (far_at p s names))
     far_alike k h = by (nat_eq k p) refl where
-      by : (b : Bool) → nat_eq k p ≡ b → (s.parameter k ≡ 0 → assigned names (far_at p s names) k ≡ 0) × (0 < s.parameter k → 0 < assigned names (far_at p s names) k)
+      by : (b : Bool) → nat_eq k p ≡ b → (s.parameter k ≡ 0 → assigned names (far_at p s names) k ≡ 0) ×
+          (0 < s.parameter k → 0 < assigned names (far_at p s names) k)
       by true e =
           let f : k ≡ p = grind (arith, nat_tests) in
           let g = ap (λ j. s.parameter j) f in
@@ -54,7 +55,8 @@ module _ (names : List ℕ) (s : Assignment) where
 
     far_alike_back : Alike (Among names) (assignment names (far_at p s names)) s
     far_alike_back k h = by (nat_eq k p) refl where
-      by : (b : Bool) → nat_eq k p ≡ b → (assigned names (far_at p s names) k ≡ 0 → s.parameter k ≡ 0) × (0 < assigned names (far_at p s names) k → 0 < s.parameter k)
+      by : (b : Bool) → nat_eq k p ≡ b → (assigned names (far_at p s names) k ≡ 0 → s.parameter k ≡ 0) ×
+          (0 < assigned names (far_at p s names) k → 0 < s.parameter k)
       by true e =
           let f : k ≡ p = grind (arith, nat_tests) in
           let g = ap (λ j. s.parameter j) f in
@@ -62,7 +64,8 @@ module _ (names : List ℕ) (s : Assignment) where
           (λ z. absurd (omega arith), λ z. omega arith)
       by false e = let v = far_value k h false e in rw v (signs_sign (s.parameter k))
 
-module _ (u v : Universe) (names : List ℕ) (ou : Over (Among names) u) (ov : Over (Among names) v) (deep : level_depth v ≤ 1024) (h : passes u v names [] names true ≡ true) (s : Assignment) where
+module _ (u v : Universe) (names : List ℕ) (ou : Over (Among names) u) (ov : Over (Among names) v) (deep : level_depth v ≤ 1024)
+    (h : passes u v names [] names true ≡ true) (s : Assignment) where
   at_near : Holds u v names (near s names)
   at_near = pass_near u v names s names [] true h
 
@@ -70,7 +73,9 @@ module _ (u v : Universe) (names : List ℕ) (ou : Over (Among names) u) (ov : O
   at_far p = pass_far u v names p s names [] h
 
   -- v has a part that is as great, where u has one with a parameter
-  far_part : (p k : ℕ) (o : Among names p) (z : 0 < s.parameter p) → s.parameter p + k ≡ value_of s u → 1025 + k ≤ value_of (assignment names (far_at p s names)) v → Reached (Among names) (assignment names (far_at p s names)) v → value_of s u ≤ value_of s v
+  far_part : (p k : ℕ) (o : Among names p) (z : 0 < s.parameter p) → s.parameter p + k ≡ value_of s u
+      → 1025 + k ≤ value_of (assignment names (far_at p s names)) v → Reached (Among names) (assignment names (far_at p s names)) v
+      → value_of s u ≤ value_of s v
   far_part p k o z e f (by_number c x d g) = absurd (omega arith)
   far_part p k o z e f (by_parameter q j w y x d g) = by (nat_eq q p) refl where
     by : (b : Bool) → nat_eq q p ≡ b → value_of s u ≤ value_of s v
@@ -131,24 +136,34 @@ kept seen (x ∷ xs) k h = kept (if list_any (λ j. nat_eq j x) seen then seen e
 
 found : (seen xs : List ℕ) (k : ℕ) → Among xs k → Among (distinct_behind seen xs) k
 found seen [] k h = absurd (let e : false ≡ true = h in cc)
-found seen (x ∷ xs) k h = by (found (if list_any (λ j. nat_eq j x) seen then seen else seen ++ x ∷ []) xs k) (or_split (nat_eq x k) (list_any (λ j. nat_eq j k) xs) h) where
-  here : (b : Bool) → list_any (λ j. nat_eq j x) seen ≡ b → nat_eq x k ≡ true → Among (if b then seen else seen ++ x ∷ []) k
-  here true e q = let i : x ≡ k = grind (arith, nat_tests) in ap (λ m. list_any (λ j. nat_eq j m) seen) (sym i) ∙ e
-  here false e q = any-append (λ j. nat_eq j k) seen (x ∷ []) ∙ last (list_any (λ j. nat_eq j k) seen) (nat_eq x k) q where
-    last : (a b : Bool) → b ≡ true → (a || (b || false)) ≡ true
-    last true b r = refl
-    last false true r = refl
-    last false false r = r
+found seen (x ∷ xs) k h = by (found (if list_any (λ j. nat_eq j x) seen then seen else seen ++ x ∷ []) xs k)
+    (or_split (nat_eq x k) (list_any (λ j. nat_eq j k) xs) h) where
+      here : (b : Bool) → list_any (λ j. nat_eq j x) seen ≡ b → nat_eq x k ≡ true → Among (if b then seen else seen ++ x ∷ []) k
+      here true e q = let i : x ≡ k = grind (arith, nat_tests) in ap (λ m. list_any (λ j. nat_eq j m) seen) (sym i) ∙ e
+      here false e q = any-append (λ j. nat_eq j k) seen (x ∷ []) ∙ last (list_any (λ j. nat_eq j k) seen) (nat_eq x k) q where
+        last : (a b : Bool) → b ≡ true → (a || (b || false)) ≡ true
+        last true b r = refl
+        last false true r = refl
+        last false false r = r
 
-  by : (Among xs k → Among (distinct_behind seen (x ∷ xs)) k) → (nat_eq x k ≡ true) ⊎ (list_any (λ j. nat_eq j k) xs ≡ true) → Among (distinct_behind seen (x ∷ xs)) k
-  by r (inl q) = kept (if list_any (λ j. nat_eq j x) seen then seen else seen ++ x ∷ []) xs k (here (list_any (λ j. nat_eq j x) seen) refl q)
-  by r (inr q) = r q
+      by : (Among xs k → Among (distinct_behind seen (x ∷ xs)) k) → (nat_eq x k ≡ true) ⊎ (list_any (λ j. nat_eq j k) xs ≡ true)
+          → Among (distinct_behind seen (x ∷ xs)) k
+      by r (inl q) = kept (if list_any (λ j. nat_eq j x) seen then seen else seen ++ x ∷ []) xs k (here (list_any (λ j. nat_eq j x) seen) refl q)
+      by r (inr q) = r q
 
 over : (P : ℕ → Type 0) (l : Universe) → HasNoMetavariable l → ((k : ℕ) → Among (occurrences l) k → P k) → Over P l
 over P level_zero o h = tt
 over P (level_succ l) o h = over P l o h
-over P (level_max l m) o h = (over P l o.0 (λ k a. h k (any-append _ (occurrences l) (occurrences m) ∙ or_left _ _ a)), over P m o.1 (λ k a. h k (any-append _ (occurrences l) (occurrences m) ∙ or_right _ _ a)))
-over P (level_imax l m) o h = (over P l o.0 (λ k a. h k (any-append _ (occurrences l) (occurrences m) ∙ or_left _ _ a)), over P m o.1 (λ k a. h k (any-append _ (occurrences l) (occurrences m) ∙ or_right _ _ a)))
+over P (level_max l m) o h = (
+  over P l o.0 (λ k a. h k (any-append _ (occurrences l) (occurrences m) ∙ or_left _ _ a)),
+  over P m o.1
+      (λ k a. h k (any-append _ (occurrences l) (occurrences m) ∙ or_right _ _ a)),
+)
+over P (level_imax l m) o h = (
+  over P l o.0 (λ k a. h k (any-append _ (occurrences l) (occurrences m) ∙ or_left _ _ a)),
+  over P m o.1
+      (λ k a. h k (any-append _ (occurrences l) (occurrences m) ∙ or_right _ _ a)),
+)
 over P (level_param k) o h = h k (self k) where
   self : (n : ℕ) → (nat_eq n n || false) ≡ true
   self n = let e : nat_eq n n ≡ true = grind (arith, nat_tests) in rw e refl
@@ -162,10 +177,12 @@ left_over u v o = over _ u o (λ k a. found [] (occurrences u ++ occurrences v) 
 right_over : (u v : Universe) → HasNoMetavariable v → Over (Among (parameters_of u v)) v
 right_over u v o = over _ v o (λ k a. found [] (occurrences u ++ occurrences v) k (any-append _ (occurrences u) (occurrences v) ∙ or_right _ _ a))
 
-pub leq_if : (u v : Universe) → HasNoMetavariable u → HasNoMetavariable v → level_depth v ≤ 1024 → passes u v (parameters_of u v) [] (parameters_of u v) true ≡ true → Leq u v
+pub leq_if : (u v : Universe) → HasNoMetavariable u → HasNoMetavariable v → level_depth v ≤ 1024
+    → passes u v (parameters_of u v) [] (parameters_of u v) true ≡ true → Leq u v
 leq_if u v ou ov d h s = holds u v (parameters_of u v) (left_over u v ou) (right_over u v ov) d h s
 
-pub geq_if : (u v : Universe) → HasNoMetavariable u → HasNoMetavariable v → level_depth u ≤ 1024 → passes v u (parameters_of u v) [] (parameters_of u v) true ≡ true → Leq v u
+pub geq_if : (u v : Universe) → HasNoMetavariable u → HasNoMetavariable v → level_depth u ≤ 1024
+    → passes v u (parameters_of u v) [] (parameters_of u v) true ≡ true → Leq v u
 geq_if u v ou ov d h s = holds v u (parameters_of u v) (right_over u v ov) (left_over u v ou) d h s
 
 -- ---- what the calls answer
@@ -174,12 +191,14 @@ and_true : (a b : Bool) → a ≡ true → b ≡ true → (a && b) ≡ true
 and_true true b p q = q
 and_true false b p q = p
 
-pub leq_answer : (u v : Universe) (names : List ℕ) (b : Bool) → names ≡ parameters_of u v → HasNoMetavariable u → HasNoMetavariable v → level_depth v ≤ 1024 → b ≡ passes u v names [] names true → IsTrue b ↔ Leq u v
+pub leq_answer : (u v : Universe) (names : List ℕ) (b : Bool) → names ≡ parameters_of u v → HasNoMetavariable u → HasNoMetavariable v → level_depth v ≤ 1024
+    → b ≡ passes u v names [] names true → IsTrue b ↔ Leq u v
 leq_answer u v names b e ou ov d p =
     let f : passes u v names [] names true ≡ passes u v (parameters_of u v) [] (parameters_of u v) true = ap (λ n. passes u v n [] n true) e in
     (λ t. leq_if u v ou ov d (sym f ∙ sym p ∙ t), λ h. p ∙ passes_if u v names h names [] true)
 
-pub same_answer : (u v : Universe) (names : List ℕ) (b : Bool) → names ≡ parameters_of u v → HasNoMetavariable u → HasNoMetavariable v → level_depth u ≤ 1024 → level_depth v ≤ 1024 → b ≡ (passes u v names [] names true && passes v u names [] names true) → IsTrue b ↔ Same u v
+pub same_answer : (u v : Universe) (names : List ℕ) (b : Bool) → names ≡ parameters_of u v → HasNoMetavariable u → HasNoMetavariable v → level_depth u ≤ 1024
+    → level_depth v ≤ 1024 → b ≡ (passes u v names [] names true && passes v u names [] names true) → IsTrue b ↔ Same u v
 same_answer u v names b e ou ov d d' p =
     let f : passes u v names [] names true ≡ passes u v (parameters_of u v) [] (parameters_of u v) true = ap (λ n. passes u v n [] n true) e in
     let g : passes v u names [] names true ≡ passes v u (parameters_of u v) [] (parameters_of u v) true = ap (λ n. passes v u n [] n true) e in (
@@ -187,5 +206,6 @@ same_answer u v names b e ou ov d d' p =
           let x = leq_if u v ou ov d' (sym f ∙ w.0) s in
           let y = geq_if u v ou ov d (sym g ∙ w.1) s in
           omega arith,
-      λ h. p ∙ and_true _ _ (passes_if u v names (λ s. let x = h s in omega arith) names [] true) (passes_if v u names (λ s. let x = h s in omega arith) names [] true),
+      λ h. p ∙ and_true _ _ (passes_if u v names (λ s. let x = h s in omega arith) names [] true)
+          (passes_if v u names (λ s. let x = h s in omega arith) names [] true),
     )

@@ -27,7 +27,8 @@ Among names k = list_any (λ j. nat_eq j k) names ≡ true
 same_if : (n k : ℕ) → nat_eq n k ≡ true → n ≡ k
 same_if n k e = grind (arith, nat_tests)
 
-near_step : (b : Bool) (s : Assignment) (n k : ℕ) (r : Bool) (rest : ℕ) → nat_eq n k ≡ b → (b || r) ≡ true → (r ≡ true → rest ≡ sign (s.parameter k)) → (if b then sign (s.parameter n) else rest) ≡ sign (s.parameter k)
+near_step : (b : Bool) (s : Assignment) (n k : ℕ) (r : Bool) (rest : ℕ) → nat_eq n k ≡ b → (b || r) ≡ true → (r ≡ true → rest ≡ sign (s.parameter k))
+    → (if b then sign (s.parameter n) else rest) ≡ sign (s.parameter k)
 near_step true s n k r rest e h g = ap (λ j. sign (s.parameter j)) (same_if n k e)
 near_step false s n k r rest e h g = g h
 
@@ -39,18 +40,22 @@ near_at s (n ∷ ns) k h = near_step (nat_eq n k) s n k (list_any (λ j. nat_eq 
 pub far_here : (p : ℕ) (s : Assignment) (names : List ℕ) → Among names p → assigned names (far_at p s names) p ≡ 1025
 far_here p s [] h = absurd (let e : false ≡ true = h in cc)
 far_here p s (n ∷ ns) h = by (far_here p s ns) (nat_eq n p) refl h where
-  by : (Among ns p → assigned ns (far_at p s ns) p ≡ 1025) → (b : Bool) → nat_eq n p ≡ b → (b || list_any (λ j. nat_eq j p) ns) ≡ true → assigned (n ∷ ns) (if b then 1025 ∷ near s ns else sign (s.parameter n) ∷ far_at p s ns) p ≡ 1025
+  by : (Among ns p → assigned ns (far_at p s ns) p ≡ 1025) → (b : Bool) → nat_eq n p ≡ b → (b || list_any (λ j. nat_eq j p) ns) ≡ true
+      → assigned (n ∷ ns) (if b then 1025 ∷ near s ns else sign (s.parameter n) ∷ far_at p s ns) p ≡ 1025
   by r true e g = rw e refl
   by r false e g = rw e (r g)
 
-pub far_there : (p : ℕ) (s : Assignment) (names : List ℕ) (k : ℕ) → nat_eq k p ≡ false → Among names k → assigned names (far_at p s names) k ≡ sign (s.parameter k)
+pub far_there : (p : ℕ) (s : Assignment) (names : List ℕ) (k : ℕ) → nat_eq k p ≡ false → Among names k
+    → assigned names (far_at p s names) k ≡ sign (s.parameter k)
 far_there p s [] k d h = absurd (let e : false ≡ true = h in cc)
 far_there p s (n ∷ ns) k d h = by (far_there p s ns k d) (nat_eq n p) refl where
-  other : (b : Bool) → nat_eq n k ≡ b → (b || list_any (λ j. nat_eq j k) ns) ≡ true → nat_eq n p ≡ true → (if b then 1025 else assigned ns (near s ns) k) ≡ sign (s.parameter k)
+  other : (b : Bool) → nat_eq n k ≡ b → (b || list_any (λ j. nat_eq j k) ns) ≡ true → nat_eq n p ≡ true
+      → (if b then 1025 else assigned ns (near s ns) k) ≡ sign (s.parameter k)
   other true e g f = absurd (grind (arith, nat_tests))
   other false e g f = near_at s ns k g
 
-  by : (Among ns k → assigned ns (far_at p s ns) k ≡ sign (s.parameter k)) → (b : Bool) → nat_eq n p ≡ b → assigned (n ∷ ns) (if b then 1025 ∷ near s ns else sign (s.parameter n) ∷ far_at p s ns) k ≡ sign (s.parameter k)
+  by : (Among ns k → assigned ns (far_at p s ns) k ≡ sign (s.parameter k)) → (b : Bool) → nat_eq n p ≡ b
+      → assigned (n ∷ ns) (if b then 1025 ∷ near s ns else sign (s.parameter n) ∷ far_at p s ns) k ≡ sign (s.parameter k)
   by r true e = other (nat_eq n k) refl h e
   by r false e = near_step (nat_eq n k) s n k (list_any (λ j. nat_eq j k) ns) (assigned ns (far_at p s ns) k) refl h r
 
@@ -67,14 +72,17 @@ module _ (u v : Universe) (names : List ℕ) where
   abbrev pub Holds : List ℕ → Type 0
   Holds values = value_of (assignment names values) u ≤ value_of (assignment names values) v
 
-  three : (values rest : List ℕ) (far : Bool) (n : ℕ) → passes u v names values (n ∷ rest) far ≡ true → (passes u v names (values ++ 0 ∷ []) rest far ≡ true) × (passes u v names (values ++ 1 ∷ []) rest far ≡ true) × ((if far then passes u v names (values ++ 1025 ∷ []) rest false else true) ≡ true)
+  three : (values rest : List ℕ) (far : Bool) (n : ℕ) → passes u v names values (n ∷ rest) far ≡ true
+      → (passes u v names (values ++ 0 ∷ []) rest far ≡ true) × (passes u v names (values ++ 1 ∷ []) rest far ≡ true) ×
+      ((if far then passes u v names (values ++ 1025 ∷ []) rest false else true) ≡ true)
   three values rest far n h = let p = and_parts _ _ h in let q = and_parts _ _ p.0 in (q.0, q.1, p.1)
 
   by_sign : (values rest : List ℕ) → Holds (values ++ 0 ∷ [] ++ rest) → Holds (values ++ 1 ∷ [] ++ rest) → (m : ℕ) → Holds (values ++ sign m ∷ rest)
   by_sign values rest p q zero = subst Holds (append_assoc values (0 ∷ []) rest) p
   by_sign values rest p q (suc m) = subst Holds (append_assoc values (1 ∷ []) rest) q
 
-  by_place : (b : Bool) (values other rest : List ℕ) → Holds (values ++ other) → Holds (values ++ 1025 ∷ [] ++ rest) → Holds (values ++ (if b then 1025 ∷ rest else other))
+  by_place : (b : Bool) (values other rest : List ℕ) → Holds (values ++ other) → Holds (values ++ 1025 ∷ [] ++ rest)
+      → Holds (values ++ (if b then 1025 ∷ rest else other))
   by_place true values other rest p q = subst Holds (append_assoc values (1025 ∷ []) rest) q
   by_place false values other rest p q = p
 
@@ -88,7 +96,9 @@ module _ (u v : Universe) (names : List ℕ) where
   pass_far p s [] values h = rw append-nil (at_most _ _ h)
   pass_far p s (n ∷ rest) values h =
       let t = three values rest true n h in
-      by_place (nat_eq n p) values (sign (s.parameter n) ∷ far_at p s rest) (near s rest) (by_sign values (far_at p s rest) (pass_far p s rest (values ++ 0 ∷ []) t.0) (pass_far p s rest (values ++ 1 ∷ []) t.1) (s.parameter n)) (pass_near s rest (values ++ 1025 ∷ []) false t.2)
+      by_place (nat_eq n p) values (sign (s.parameter n) ∷ far_at p s rest) (near s rest)
+      (by_sign values (far_at p s rest) (pass_far p s rest (values ++ 0 ∷ []) t.0) (pass_far p s rest (values ++ 1 ∷ []) t.1) (s.parameter n))
+      (pass_near s rest (values ++ 1025 ∷ []) false t.2)
 
   and_both : (a b c : Bool) → a ≡ true → b ≡ true → c ≡ true → (a && b && c) ≡ true
   and_both true true true p q r = refl
@@ -99,5 +109,6 @@ module _ (u v : Universe) (names : List ℕ) where
   -- Where the order holds each test passes.
   pub passes_if : Leq u v → (rest values : List ℕ) (far : Bool) → passes u v names values rest far ≡ true
   passes_if h [] values far = let p = h (assignment names values) in grind (arith, nat_tests)
-  passes_if h (n ∷ rest) values true = and_both _ _ _ (passes_if h rest (values ++ 0 ∷ []) true) (passes_if h rest (values ++ 1 ∷ []) true) (passes_if h rest (values ++ 1025 ∷ []) false)
+  passes_if h (n ∷ rest) values true = and_both _ _ _ (passes_if h rest (values ++ 0 ∷ []) true) (passes_if h rest (values ++ 1 ∷ []) true)
+      (passes_if h rest (values ++ 1025 ∷ []) false)
   passes_if h (n ∷ rest) values false = and_both _ _ _ (passes_if h rest (values ++ 0 ∷ []) false) (passes_if h rest (values ++ 1 ∷ []) false) refl

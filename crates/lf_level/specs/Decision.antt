@@ -1,4 +1,4 @@
--- How the order of levels is decided: by finitely many assignments. No public contract rests on this file.
+-- How the order of levels is decided: by finitely many assignments. The checker asks by it; that its answers are those of all assignments is a law of lf_checker_laws.
 use Rattle.std.specs.Prelude.{◌≡◌, ℕ, Bool, true, false, ◌&&◌, nat_eq, nat_le, ◌<◌, ◌≤◌, length, if◌then◌else◌, List, [], ◌∷◌, ◌++◌, Result, Ok, Err}
 use Rattle.lf_core.specs.Term.{Universe}
 use Rattle.lf_core.specs.Level.{Assignment, value_of}
@@ -25,7 +25,8 @@ assignment names values = record { parameter = assigned names values; metavariab
 abbrev pub passes : Universe → Universe → List ℕ → List ℕ → List ℕ → Bool → Bool
 passes u v names values [] far = nat_le (value_of (assignment names values) u) (value_of (assignment names values) v)
 passes u v names values (_ ∷ rest) far =
-    passes u v names (values ++ 0 ∷ []) rest far && passes u v names (values ++ 1 ∷ []) rest far && (if far then passes u v names (values ++ 1025 ∷ []) rest false else true)
+    passes u v names (values ++ 0 ∷ []) rest far && passes u v names (values ++ 1 ∷ []) rest far &&
+    (if far then passes u v names (values ++ 1025 ∷ []) rest false else true)
 
 -- The distinct parameters of two levels, or there are more than 8.
 abbrev pub Lists : Universe → Universe → Result (List ℕ) LevelFault → Type 0

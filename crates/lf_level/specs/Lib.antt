@@ -1,3 +1,4 @@
 pub mod Parameters
 pub mod Answer
 pub mod Decision
+pub mod Lanes

@@ -1,3 +1,4 @@
+//! Why levels aren't compared.
 use lf_core::NoMemory;
 use std::alloc::AllocError;
 use thiserror::Error;

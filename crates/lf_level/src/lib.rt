@@ -2,9 +2,10 @@
 #![tactic(auto)]
 
 mod fault;
+mod lanes;
 mod order;
 mod parameters;
-mod value;
+mod tried;
 
 pub use fault::LevelFault;
 pub use order::{leq, same, subst};

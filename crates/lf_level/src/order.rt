@@ -1,70 +1,31 @@
-ghost use Rattle.std.specs.Prelude.{◌≡◌, ◌&&◌, true, ◌+◌, ◌∷◌, ◌++◌, [], ◌<◌, ◌≤◌, All, length, take, IfOk};
+//! The order and the sameness of levels.
+ghost use Rattle.std.specs.Prelude.{◌≡◌, ◌↔◌, ◌≤◌, All, length, IfOk, IsTrue};
 ghost use Rattle.lf_core.specs.Level.{Leq, Same};
 ghost use Rattle.lf_core.specs.Size.{level_depth};
 ghost use Rattle.lf_core.specs.Substitution.{level_substitute};
 ghost use Rattle.lf_level.specs.Answer.{Answers};
 ghost use Rattle.lf_level.specs.Parameters.{HasNoMetavariable, parameters_of};
-ghost use Rattle.lf_level.specs.Decision.{Lists, passes};
+ghost use Rattle.lf_level.specs.Decision.{Lists};
+ghost use Rattle.lf_level.specs.Lanes.{HoldsAt, all_trials};
 
 use crate::fault::LevelFault;
 use crate::parameters::collect;
-use crate::value::value;
+use crate::tried::{holds_at_all, push_trials};
 use lf_core::{Level, NoMemory};
 use sqlite_items::Items;
 use std::alloc::Global;
 
-/// More than a level of depth 1,024 adds to a parameter.
-const FAR: u32 = 1025;
-
-// The values with one more behind the first `at`.
-fn with(values: [u32; 8], at: usize, more: u32) -> [u32; 8]
-    requires room { at < 8 }
-    requires small { All (λ v. v ≤ 1025) values }
-    requires more { more ≤ 1025 }
-    ensures first { take (at + 1) result ≡ take at values ++ more ∷ [] }
-    ensures small { All (λ v. v ≤ 1025) result }
-{
-    let mut values = values;
-    values[at] = more;
-    values
-}
-
-// Whether `u` is at most `v` where the first names have the first `at` values and the rest 0 or 1 each, or,
-// if `far`, one of them FAR.
-fn passes_all(
-    u: &Level,
-    v: &Level,
-    names: &[u32],
-    rest: &[u32],
-    values: [u32; 8],
-    at: usize,
-    far: bool,
-) -> bool
-    requires left { level_depth u.now ≤ 1024 }
-    requires right { level_depth v.now ≤ 1024 }
-    requires room { at + length rest.now ≤ 8 }
-    requires small { All (λ v. v ≤ 1025) values }
-    ensures { result ≡ passes u.now v.now names.now (take at values) rest.now far }
-{
-    match rest {
-        [] => value(u, names, &values[..at]) <= value(v, names, &values[..at]),
-        [_name, rest @ ..] => {
-            passes_all(u, v, names, rest, with(values, at, 0), at + 1, far)
-                && passes_all(u, v, names, rest, with(values, at, 1), at + 1, far)
-                && (!far || passes_all(u, v, names, rest, with(values, at, FAR), at + 1, false))
-        }
-    }
-}
-
-// Whether all tests pass both ways.
-fn passes_both(u: &Level, v: &Level, names: &[u32]) -> bool
+// Whether the levels are equal (`both`), or the first is at most the second, in all that is tried.
+#[tactic(auto, using(crate::proofs::Tried_values::trials_small))]
+fn holds(alloc: Global, both: bool, u: &Level, v: &Level, names: &[u32]) -> Result<bool, NoMemory>
     requires left { level_depth u.now ≤ 1024 }
     requires right { level_depth v.now ≤ 1024 }
     requires room { length names.now ≤ 8 }
-    ensures { result ≡ (passes u.now v.now names.now [] names.now true && passes v.now u.now names.now [] names.now true) }
+    ensures { IfOk result (λ b. IsTrue b ↔ All (HoldsAt both u.now v.now names.now) (all_trials names.now)) }
 {
-    passes_all(u, v, names, names, [0; 8], 0, true)
-        && passes_all(v, u, names, names, [0; 8], 0, true)
+    let mut tried = Vec::new(alloc);
+    push_trials(&mut tried, names, [0; 8], 0, true)?;
+    Ok(holds_at_all(both, u, v, names, tried.as_slice()))
 }
 
 // The distinct parameters of the two levels.
@@ -91,7 +52,7 @@ pub fn leq(alloc: Global, u: &Level, v: &Level) -> Result<bool, LevelFault>
         return Ok(true);
     }
     let names = names.as_slice();
-    Ok(passes_all(u, v, names, names, [0; 8], 0, true))
+    Ok(holds(alloc, false, u, v, names)?)
 }
 
 /// Whether `u` and `v` have the same value under every assignment of natural numbers to the parameters.
@@ -108,7 +69,7 @@ pub fn same(alloc: Global, u: &Level, v: &Level) -> Result<bool, LevelFault>
         return Ok(true);
     }
     let names = names.as_slice();
-    Ok(passes_both(u, v, names))
+    Ok(holds(alloc, true, u, v, names)?)
 }
 
 /// `u` with an argument for each parameter. A parameter past the arguments stays.

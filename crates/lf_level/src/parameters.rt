@@ -1,3 +1,4 @@
+//! The parameters of levels.
 ghost use Rattle.std.specs.Prelude.{◌≤◌, ◌↔◌, ◌∷◌, [], IsTrue, length};
 ghost use Rattle.lf_level.specs.Parameters.{HasNoMetavariable, occurrences};
 ghost use Rattle.lf_level.specs.Decision.{Collects};
@@ -9,18 +10,12 @@ use sqlite_items::Items;
 /// The most distinct parameters that are compared.
 pub const MOST: usize = 8;
 
-/// Whether no metavariable stands in the level.
+/// Whether no metavariable stands in the level. It takes constant time, as that is kept beside the level.
+#[tactic(auto, using(crate::proofs::Metavariables::has_none, crate::proofs::Metavariables::tells_none))]
 pub fn has_no_metavariable(level: &Level) -> bool
     ensures { IsTrue result ↔ HasNoMetavariable level.now }
 {
-    match level.node() {
-        LevelNode::Zero | LevelNode::Param(_) => true,
-        LevelNode::Succ(l) => has_no_metavariable(l),
-        LevelNode::Max(l, m) | LevelNode::Imax(l, m) => {
-            has_no_metavariable(l) && has_no_metavariable(m)
-        }
-        LevelNode::Meta(_) => false,
-    }
+    !level.has_metavariable()
 }
 
 // Puts a parameter behind `seen`, where it isn't there.

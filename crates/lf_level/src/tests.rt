@@ -1,3 +1,4 @@
+//! Levels at the edges of the limits, and great ones.
 use crate::{LevelFault, has_no_metavariable, leq, same, subst};
 use lf_core::{Level, LevelNode, NoMemory};
 use sqlite_items::Items;

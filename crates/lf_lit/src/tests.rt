@@ -1,3 +1,4 @@
+//! Each operation, and its edges.
 use crate::{LitOut, apply, nat_op, operation};
 use lf_core::{Name, Operation};
 use std::test::Fail;

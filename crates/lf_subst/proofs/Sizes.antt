@@ -2,7 +2,7 @@
 use Rattle.std.proofs.Common.{◌≡◌, ℕ, suc, ◌+◌, ◌-◌, refl, arith}
 use Rattle.std.proofs.lemmas.Bool.Decides.{nat_tests}
 use Rattle.std.specs.Prelude.{Bool, true, false, max, nat_lt, nat_eq, if◌then◌else◌}
-use Rattle.lf_core.specs.Term.{Term, bound, free, meta, sort, const, app, lam, pi, letin, lit}
+use Rattle.lf_core.specs.Term.{Term, bound, free, meta, sort, const, app, lam, pi, letin, lit, proj}
 use Rattle.lf_core.specs.Size.{node_count, depth}
 use Rattle.lf_core.specs.Substitution.{raise, instantiate_variable, abstract_at, abstract}
 
@@ -25,6 +25,7 @@ raise-node_count d n (lam x a b) = λ i. raise-node_count d n a i + raise-node_c
 raise-node_count d n (pi x a b) = λ i. raise-node_count d n a i + raise-node_count (suc d) n b i + 1
 raise-node_count d n (letin x a v b) = λ i. raise-node_count d n a i + raise-node_count d n v i + raise-node_count (suc d) n b i + 1
 raise-node_count d n (lit m) = refl
+raise-node_count d n (proj s j t) = λ i. raise-node_count d n t i + 1
 
 pub raise-depth : (d n : ℕ) (t : Term) → depth (raise d n t) ≡ depth t
 raise-depth d n (bound i) = chosen_depth (nat_lt i d) i (i + n)
@@ -37,18 +38,21 @@ raise-depth d n (lam x a b) = λ i. max (raise-depth d n a i) (raise-depth (suc 
 raise-depth d n (pi x a b) = λ i. max (raise-depth d n a i) (raise-depth (suc d) n b i) + 1
 raise-depth d n (letin x a v b) = λ i. max (raise-depth d n a i) (max (raise-depth d n v i) (raise-depth (suc d) n b i)) + 1
 raise-depth d n (lit m) = refl
+raise-depth d n (proj s j t) = λ i. raise-depth d n t i + 1
 
 -- At a variable the argument's size counts, or 1.
 apart : (i d : ℕ) → nat_lt i d ≡ true → nat_eq i d ≡ true → ⊥
 apart i d p q = grind (arith, nat_tests)
 
-count_by : (p q : Bool) → (p ≡ true → q ≡ true → ⊥) → (arg : Term) (d i : ℕ) → node_count (if p then bound i else (if q then raise 0 d arg else bound (i - 1))) ≡ (if q then node_count arg else 1)
+count_by : (p q : Bool) → (p ≡ true → q ≡ true → ⊥) → (arg : Term) (d i : ℕ)
+    → node_count (if p then bound i else (if q then raise 0 d arg else bound (i - 1))) ≡ (if q then node_count arg else 1)
 count_by true true h arg d i = absurd (h refl refl)
 count_by true false h arg d i = refl
 count_by false true h arg d i = raise-node_count 0 d arg
 count_by false false h arg d i = refl
 
-depth_by : (p q : Bool) → (p ≡ true → q ≡ true → ⊥) → (arg : Term) (d i : ℕ) → depth (if p then bound i else (if q then raise 0 d arg else bound (i - 1))) ≡ (if q then depth arg else 1)
+depth_by : (p q : Bool) → (p ≡ true → q ≡ true → ⊥) → (arg : Term) (d i : ℕ)
+    → depth (if p then bound i else (if q then raise 0 d arg else bound (i - 1))) ≡ (if q then depth arg else 1)
 depth_by true true h arg d i = absurd (h refl refl)
 depth_by true false h arg d i = refl
 depth_by false true h arg d i = raise-depth 0 d arg
@@ -80,6 +84,7 @@ abstract_count d (lam x a b) k = λ i. abstract_count d a k i + abstract_count (
 abstract_count d (pi x a b) k = λ i. abstract_count d a k i + abstract_count (suc d) b k i + 1
 abstract_count d (letin x a v b) k = λ i. abstract_count d a k i + abstract_count d v k i + abstract_count (suc d) b k i + 1
 abstract_count d (lit m) k = refl
+abstract_count d (proj s j t) k = λ i. abstract_count d t k i + 1
 
 pub abstract_depth : (d : ℕ) (t : Term) (k : ℕ) → depth (abstract_at d t k) ≡ depth t
 abstract_depth d (bound i) k = chosen_depth (nat_lt i d) i (suc i)
@@ -92,6 +97,7 @@ abstract_depth d (lam x a b) k = λ i. max (abstract_depth d a k i) (abstract_de
 abstract_depth d (pi x a b) k = λ i. max (abstract_depth d a k i) (abstract_depth (suc d) b k i) + 1
 abstract_depth d (letin x a v b) k = λ i. max (abstract_depth d a k i) (max (abstract_depth d v k i) (abstract_depth (suc d) b k i)) + 1
 abstract_depth d (lit m) k = refl
+abstract_depth d (proj s j t) k = λ i. abstract_depth d t k i + 1
 
 pub abstract_count_is : (t : Term) (k : ℕ) → node_count (abstract t k) ≡ node_count t
 abstract_count_is t k = abstract_count 0 t k

@@ -1,3 +1,4 @@
+//! Why a substitution isn't made.
 use lf_core::NoMemory;
 
 /// Why a substitution gives no term.

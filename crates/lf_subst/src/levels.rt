@@ -1,20 +1,23 @@
-ghost use Rattle.std.specs.Prelude.{◌≡◌, ◌↔◌, ◌+◌, ◌<◌, ◌≤◌, IsTrue, IfOk, MatchOption, map};
+//! Levels put in for parameters.
+ghost use Rattle.std.specs.Prelude.{◌≡◌, ◌↔◌, ◌+◌, ◌<◌, ◌≤◌, IsTrue, IfOk, IfSome, MatchOption, map};
 ghost use Rattle.lf_core.specs.Size as size;
 ghost use Rattle.lf_core.specs.Substitution as spec;
 ghost use Rattle.lf_subst.specs.Answer.{Substitutes};
 
 use crate::fault::SubstFault;
-use lf_core::{Expr, ExprNode, Level, LevelNode, NoMemory};
+use crate::instance::DEEPEST;
+use lf_core::{Expr, ExprNode, Level, LevelNode, NoMemory, levels_count, levels_longest};
 use sqlite_items::Items;
 use std::alloc::Global;
 
-/// The deepest term that is made.
-const DEEPEST: u32 = 1024;
-
 // Whether `level` at these arguments is at most `limit` deep.
+#[tactic(auto, using(lf_core::proofs::Unchanged::level_unchanged))]
 fn is_level_within(limit: u32, args: &[Level], level: &Level) -> bool
     ensures { IsTrue result ↔ (size.level_depth (spec.level_substitute args.now level.now) ≤ limit) }
 {
+    if !level.has_parameter() {
+        return level.depth() <= limit;
+    }
     match level.node() {
         LevelNode::Zero | LevelNode::Meta(_) => limit > 0,
         LevelNode::Param(k) => match args.get(*k as usize) {
@@ -38,9 +41,13 @@ fn are_levels_within(limit: u32, args: &[Level], levels: &[Level]) -> bool
 }
 
 // Whether `term` at these levels is at most `limit` deep.
+#[tactic(auto, using(crate::proofs::Unchanged::term_unchanged))]
 fn is_within(limit: u32, args: &[Level], term: &Expr) -> bool
     ensures { IsTrue result ↔ (size.depth (spec.level_instantiate args.now term.now) ≤ limit) }
 {
+    if !term.has_parameter() {
+        return term.depth() <= limit;
+    }
     match term.node() {
         ExprNode::Bound(_) | ExprNode::Free(_) | ExprNode::Meta(_) | ExprNode::Lit(_) => limit > 0,
         ExprNode::Sort(l) => limit > 0 && is_level_within(limit - 1, args, l),
@@ -51,6 +58,7 @@ fn is_within(limit: u32, args: &[Level], term: &Expr) -> bool
         ExprNode::Lam(_, a, b) | ExprNode::Pi(_, a, b) => {
             limit > 0 && is_within(limit - 1, args, a) && is_within(limit - 1, args, b)
         }
+        ExprNode::Proj(_, _, t) => limit > 0 && is_within(limit - 1, args, t),
         ExprNode::Let(_, a, v, b) => {
             limit > 0
                 && is_within(limit - 1, args, a)
@@ -61,9 +69,13 @@ fn is_within(limit: u32, args: &[Level], term: &Expr) -> bool
 }
 
 // What is left of `left` after the nodes of `level` at these arguments, or `None` where they pass it.
+#[tactic(auto, using(lf_core::proofs::Unchanged::level_unchanged))]
 fn spend_level(left: u64, args: &[Level], level: &Level) -> Option<u64>
     ensures { MatchOption result (left < size.level_node_count (spec.level_substitute args.now level.now)) (λ rest. rest + size.level_node_count (spec.level_substitute args.now level.now) ≡ left) }
 {
+    if !level.has_parameter() {
+        return left.checked_sub(level.node_count());
+    }
     match level.node() {
         LevelNode::Zero | LevelNode::Meta(_) => left.checked_sub(1),
         LevelNode::Param(k) => match args.get(*k as usize) {
@@ -88,9 +100,13 @@ fn spend_levels(left: u64, args: &[Level], levels: &[Level]) -> Option<u64>
 }
 
 // What is left of `left` after the nodes of `term` at these levels, or `None` where they pass it.
+#[tactic(auto, using(crate::proofs::Unchanged::term_unchanged))]
 fn spend(left: u64, args: &[Level], term: &Expr) -> Option<u64>
     ensures { MatchOption result (left < size.node_count (spec.level_instantiate args.now term.now)) (λ rest. rest + size.node_count (spec.level_instantiate args.now term.now) ≡ left) }
 {
+    if !term.has_parameter() {
+        return left.checked_sub(term.node_count());
+    }
     match term.node() {
         ExprNode::Bound(_) | ExprNode::Free(_) | ExprNode::Meta(_) | ExprNode::Lit(_) => {
             left.checked_sub(1)
@@ -101,6 +117,7 @@ fn spend(left: u64, args: &[Level], term: &Expr) -> Option<u64>
         ExprNode::Lam(_, a, b) | ExprNode::Pi(_, a, b) => {
             spend(spend(left.checked_sub(1)?, args, a)?, args, b)
         }
+        ExprNode::Proj(_, _, t) => spend(left.checked_sub(1)?, args, t),
         ExprNode::Let(_, a, v, b) => {
             let left = spend(left.checked_sub(1)?, args, a)?;
             spend(spend(left, args, v)?, args, b)
@@ -118,10 +135,14 @@ fn put_levels(alloc: Global, args: &[Level], levels: &[Level]) -> Result<Items<L
     Ok(all)
 }
 
-// `term` at these levels.
-fn put(alloc: Global, args: &[Level], term: &Expr) -> Result<Expr, NoMemory>
+// `term` at these levels. A part without parameters is given back.
+#[tactic(auto, using(crate::proofs::Unchanged::term_unchanged))]
+pub fn put(alloc: Global, args: &[Level], term: &Expr) -> Result<Expr, NoMemory>
     ensures { IfOk result (λ t. t ≡ spec.level_instantiate args.now term.now) }
 {
+    if !term.has_parameter() {
+        return term.copy(alloc);
+    }
     match term.node() {
         ExprNode::Sort(l) => Expr::sort(alloc, l.substitute(alloc, args)?),
         ExprNode::Const(c, ls) => {
@@ -141,6 +162,10 @@ fn put(alloc: Global, args: &[Level], term: &Expr) -> Result<Expr, NoMemory>
             let x = x.copy(alloc)?;
             let a = put(alloc, args, a)?;
             Expr::pi(alloc, x, a, put(alloc, args, b)?)
+        }
+        ExprNode::Proj(s, i, t) => {
+            let s = s.copy(alloc)?;
+            Expr::proj(alloc, s, *i, put(alloc, args, t)?)
         }
         ExprNode::Let(x, a, v, b) => {
             let x = x.copy(alloc)?;
@@ -167,24 +192,56 @@ fn unchanged(alloc: Global, term: &Expr, left: u64) -> Result<(Expr, u64), Subst
     Ok((made, nodes))
 }
 
+// Whether the term at these levels is at most as deep as allowed. The depths mostly show it, without a walk.
+#[tactic(auto, using(crate::proofs::Level_bounds::term_deep))]
+fn is_allowed(args: &[Level], term: &Expr) -> bool
+    ensures { IsTrue result ↔ (size.depth (spec.level_instantiate args.now term.now) ≤ 1024) }
+{
+    match term.depth().checked_add(levels_longest(args).max(1)) {
+        Some(most) if most <= DEEPEST + 1 => true,
+        _ => is_within(DEEPEST, args, term),
+    }
+}
+
+// What the term at these levels has at most.
+#[tactic(auto, using(crate::proofs::Level_bounds::term_many))]
+fn most_nodes(args: &[Level], term: &Expr) -> Option<u64>
+    ensures { IfSome result (λ most. size.node_count (spec.level_instantiate args.now term.now) ≤ most) }
+{
+    term.node_count().checked_mul(levels_count(args)?.max(1))
+}
+
+// Whether the nodes of the term at these levels are within `left`. The counts mostly show it, without a walk.
+fn has_room(left: u64, args: &[Level], term: &Expr) -> bool
+    ensures { IsTrue result ↔ (size.node_count (spec.level_instantiate args.now term.now) ≤ left) }
+{
+    match most_nodes(args, term) {
+        Some(most) if most <= left => true,
+        _ => spend(left, args, term).is_some(),
+    }
+}
+
 /// `term` with these levels for its level parameters, and its number of nodes. A parameter past the
 /// arguments stays. The result is measured first, so nothing is built where it is refused.
+#[tactic(auto, using(crate::proofs::Deeper::levels_deeper))]
 pub fn level_inst(
     alloc: Global,
     term: &Expr,
     args: &[Level],
     left: u64,
 ) -> Result<(Expr, u64), SubstFault>
-    requires { size.depth term.now ≤ 1024 }
     ensures { Substitutes (spec.level_instantiate args.now term.now) left result }
 {
+    if term.depth() > DEEPEST {
+        return Err(SubstFault::TooDeep);
+    }
     if args.is_empty() {
         return unchanged(alloc, term, left);
     }
-    if !is_within(DEEPEST, args, term) {
+    if !is_allowed(args, term) {
         return Err(SubstFault::TooDeep);
     }
-    if spend(left, args, term).is_none() {
+    if !has_room(left, args, term) {
         return Err(SubstFault::Units);
     }
     let made = put(alloc, args, term)?;

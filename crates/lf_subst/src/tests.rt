@@ -1,3 +1,4 @@
+//! Each call on its happy path, and counts and depths at their edges.
 use crate::{SubstFault, abstract_free, instantiate, level_inst};
 use lf_core::{Binder, BinderKind, Expr, Level, Name, NoMemory};
 use std::alloc::Global;

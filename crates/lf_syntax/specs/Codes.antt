@@ -3,14 +3,14 @@ use Rattle.std.specs.Prelude.{zero, suc, Bool, true, false, List, [], ◌∷◌,
 use Rattle.std.proofs.Common.{ap, sym, ◌∙◌}
 use Rattle.std.specs.Coded.{Coded}
 use base.Stored.{Gv, gnil, gnum, gcons}
-use Rattle.lf_core.specs.declared.binder.BinderKind.{BinderKind}
-use Rattle.lf_core.specs.declared.binder.BinderKind.TheVariants.{Explicit}
+use Rattle.lf_name.specs.declared.binder.BinderKind.{BinderKind}
+use Rattle.lf_name.specs.declared.binder.BinderKind.TheVariants.{Explicit}
 use Rattle.lf_syntax.specs.declared.leaf.Ident.{Ident}
 use Rattle.lf_syntax.specs.declared.leaf.Num.{Num}
-use Rattle.lf_syntax.specs.declared.leaf.Op.{Op}
-use Rattle.lf_syntax.specs.declared.leaf.Op.TheVariants.{Iff, Arrow, Or, And, Eq, Ne, Add, Sub, Mul, Div, Mod}
+use Rattle.lf_text.specs.declared.operator.Op.{Op}
+use Rattle.lf_text.specs.declared.operator.Op.TheVariants.{Iff, Arrow, Or, And, Eq, Ne, Add, Sub, Mul, Div, Mod}
 use Rattle.lf_syntax.specs.Tree.{LevelTree, LevelTrees, TermTree, TermOption, TermTrees, BindersTree, LBinderTree, LBinderTrees, ItemTree, ItemTrees, RuleTree, RuleTrees, app, apply, arrow, assumption_item, binder_and, binders, block, by_term, cases, end_binders, end_items, end_rules, end_terms, exact, forall_term, fun_term, have_item, hole, ident, implicit, induction, injection, intro, item_and, let_term, level_and, level_imax, level_max, level_name, level_number, level_plus, no_level, no_term, not_term, numeral, oper, paren, plain, prop, rfl, rule, rule_and, rw_item, some_term, sorry_item, sorry_term, sort_u, term_and, type_u, typed, unfold_item}
-use Rattle.lf_core.specs.Codes.{path, to_path, path_back, kind, to_kind, kind_back}
+use Rattle.lf_name.specs.Codes.{path, to_path, path_back, kind, to_kind, kind_back}
 
 abbrev pub code_kind : BinderKind → Gv
 code_kind k = kind k

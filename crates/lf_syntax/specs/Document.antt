@@ -5,7 +5,7 @@ use Rattle.lf_syntax.specs.declared.leaf.SyntaxFault.{SyntaxFault}
 use Rattle.lf_syntax.specs.declared.leaf.SyntaxFault.TheVariants.{Token, End, Deep}
 use Rattle.lf_syntax.specs.declared.command.Command.{Command}
 use Rattle.lf_syntax.specs.declared.command.Command.TheVariants.{Bad}
-use Rattle.lf_syntax.specs.Piece.{Class, wrong, Piece, begins_command}
+use Rattle.lf_syntax.specs.Piece.{Class, word, name, number, operator, wrong, Piece, begins_command}
 use Rattle.lf_syntax.specs.Grammar.{Derives, BadAt, EndsEarly}
 use Rattle.lf_syntax.specs.Classes.{pieces_of}
 
@@ -19,7 +19,10 @@ first_deep ts = find (λ t. nat_lt most_nested t.nesting) ts
 -- The fault of a token where it can't stand.
 abbrev pub fault_of : Class → SyntaxFault
 fault_of (wrong f) = f
-fault_of _ = Token
+fault_of (word w) = Token
+fault_of (name s x) = Token
+fault_of (number n digits) = Token
+fault_of (operator o) = Token
 
 -- Where the last token ends.
 abbrev pub end_of : List Piece → ℕ

@@ -2,13 +2,16 @@
 use Rattle.std.specs.Prelude.{ℕ, List, Option}
 use Rattle.lf_syntax.specs.declared.leaf.Ident.{Ident}
 use Rattle.lf_syntax.specs.declared.leaf.Num.{Num}
-use Rattle.lf_syntax.specs.declared.leaf.Op.{Op}
+use Rattle.lf_text.specs.declared.operator.Op.{Op}
 use Rattle.lf_syntax.specs.Tree.{LevelTree, TermTree, LBinderTree, ItemTree, RuleTree}
 use Rattle.lf_syntax.specs.declared.term.Binders.{Binders}
 use Rattle.lf_syntax.specs.declared.command.Helper.{Helper}
 use Rattle.lf_syntax.specs.declared.command.CtorDecl.{CtorDecl}
+use Rattle.lf_syntax.specs.declared.command.FieldDecl.{FieldDecl}
+use Rattle.lf_syntax.specs.declared.pattern.Alternative.{Alternative}
+use Rattle.lf_syntax.specs.declared.pattern.Pattern.{Pattern}
 use Rattle.lf_syntax.specs.declared.command.Command.{Command}
-use Rattle.lf_syntax.specs.declared.piece.Word.{Word}
+use Rattle.lf_text.specs.declared.word.Word.{Word}
 
 -- A head and its arguments.
 pub record Spine : Type 0 where
@@ -25,11 +28,15 @@ pub data BinderEnd : Type 0 where
   arrow_to : TermTree → BinderEnd
   arguments_to : List TermTree → BinderEnd
 
+-- What a `def` says of its name: a value and helpers, or alternatives.
+pub data DefBody : Type 0 where
+  by_value : TermTree → List Helper → DefBody
+  by_alternatives : List Alternative → DefBody
+
 -- Behind the binders of a `def`.
 pub record DefRest : Type 0 where
   pub ty : Option TermTree
-  pub value : TermTree
-  pub helpers : List Helper
+  pub body : DefBody
 
 pub data Symbol : Type 0 where
   command : Symbol
@@ -44,7 +51,15 @@ pub data Symbol : Type 0 where
   -- names?; ("," id1)* "}"
   level_names more_level_names : Symbol
   binder parameters lambda_binder lambda_binders implicit_end : Symbol
-  def_rest type_option where_option ctors helpers helper more_helpers : Symbol
+  -- behind the `[` at this place; behind `[name`
+  bracket : ℕ → Symbol
+  bracket_name : ℕ → Ident → Symbol
+  def_rest def_body type_option where_option ctors helpers helper more_helpers : Symbol
+  fields_option field more_fields axioms_word : Symbol
+  -- alternatives of a `def`, their patterns, what is behind a name in them, and `1`
+  alternatives pattern : Symbol
+  pattern_rest : Ident → Symbol
+  numeral_one : Symbol
   -- a term of at least this level
   term : ℕ → Symbol
   -- atom* lead?
@@ -79,13 +94,24 @@ Tree parameters = List Binders
 Tree lambda_binder = LBinderTree
 Tree lambda_binders = List LBinderTree
 Tree implicit_end = Option TermTree
+Tree (bracket at) = Binders
+Tree (bracket_name at x) = Binders
 Tree def_rest = DefRest
+Tree def_body = DefBody
 Tree type_option = Option TermTree
 Tree where_option = Unit {0}
 Tree ctors = List CtorDecl
 Tree helpers = List Helper
 Tree helper = Helper
 Tree more_helpers = List Helper
+Tree fields_option = List FieldDecl
+Tree field = FieldDecl
+Tree more_fields = List FieldDecl
+Tree axioms_word = Unit {0}
+Tree alternatives = List Alternative
+Tree pattern = Pattern
+Tree (pattern_rest x) = Pattern
+Tree numeral_one = Unit {0}
 Tree (term least) = TermTree
 Tree arguments = List TermTree
 Tree (operators least level_of_left) = List (Op × TermTree)

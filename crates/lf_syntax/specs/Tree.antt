@@ -1,9 +1,9 @@
 -- Terms and proof items as plain trees. The first number of a node is the place of its first token, in bytes.
 use Rattle.std.specs.Prelude.{ℕ, Bool, List, [], ◌∷◌, Option, Some, None}
-use Rattle.lf_core.specs.declared.binder.BinderKind.{BinderKind}
+use Rattle.lf_name.specs.declared.binder.BinderKind.{BinderKind}
 use Rattle.lf_syntax.specs.declared.leaf.Ident.{Ident}
 use Rattle.lf_syntax.specs.declared.leaf.Num.{Num}
-use Rattle.lf_syntax.specs.declared.leaf.Op.{Op}
+use Rattle.lf_text.specs.declared.operator.Op.{Op}
 
 -- Universe levels as they are written; parentheses leave no node.
 mutual

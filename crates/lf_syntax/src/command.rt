@@ -1,9 +1,10 @@
 ghost use Rattle.std.specs.Prelude.{◌≡◌, IfOk};
 
-use crate::leaf::{Ident, SyntaxFault, copy_idents};
-use crate::term::{Binders, Term, copy_binders};
-use lf_core::NoMemory;
-use sqlite_items::Items;
+use crate::leaf::{Ident, SyntaxFault};
+use crate::pattern::Alternative;
+use crate::shared::Shared;
+use crate::term::{Binders, Term};
+use lf_base::NoMemory;
 use std::alloc::Global;
 
 /// What a declaration declares. `at` is the place of the command's first token, in bytes.
@@ -12,8 +13,8 @@ pub struct Decl {
     pub at: usize,
     pub name: Ident,
     /// The written level names.
-    pub levels: Items<Ident>,
-    pub binders: Items<Binders>,
+    pub levels: Shared<Ident>,
+    pub binders: Shared<Binders>,
     pub ty: Option<Term>,
 }
 
@@ -22,7 +23,7 @@ pub struct Decl {
 pub struct Helper {
     pub at: usize,
     pub name: Ident,
-    pub binders: Items<Binders>,
+    pub binders: Shared<Binders>,
     pub ty: Term,
     pub value: Term,
 }
@@ -32,8 +33,16 @@ pub struct Helper {
 pub struct CtorDecl {
     pub at: usize,
     pub name: Ident,
-    pub binders: Items<Binders>,
+    pub binders: Shared<Binders>,
     pub ty: Option<Term>,
+}
+
+/// Fields of one type of a structure or a class.
+#[derive(Debug, Drop)]
+pub struct FieldDecl {
+    pub at: usize,
+    pub names: Shared<Ident>,
+    pub ty: Term,
 }
 
 /// A command. `at` is the place of its first token, but of `Bad` that of the fault.
@@ -43,16 +52,34 @@ pub enum Command {
     Def {
         decl: Decl,
         value: Term,
-        helpers: Items<Helper>,
+        helpers: Shared<Helper>,
+    },
+    /// A `def` by alternatives; its declaration has a type.
+    Equations {
+        decl: Decl,
+        alternatives: Shared<Alternative>,
     },
     Theorem {
         decl: Decl,
         value: Term,
-        helpers: Items<Helper>,
+        helpers: Shared<Helper>,
     },
     Inductive {
         decl: Decl,
-        ctors: Items<CtorDecl>,
+        ctors: Shared<CtorDecl>,
+    },
+    Structure {
+        decl: Decl,
+        fields: Shared<FieldDecl>,
+    },
+    Class {
+        decl: Decl,
+        fields: Shared<FieldDecl>,
+    },
+    /// An `instance`; its declaration has a type.
+    Instance {
+        decl: Decl,
+        value: Term,
     },
     Namespace {
         at: usize,
@@ -68,15 +95,15 @@ pub enum Command {
     },
     OpenNames {
         at: usize,
-        names: Items<Ident>,
+        names: Shared<Ident>,
     },
     Universe {
         at: usize,
-        names: Items<Ident>,
+        names: Shared<Ident>,
     },
     Variable {
         at: usize,
-        binders: Items<Binders>,
+        binders: Shared<Binders>,
     },
     Check {
         at: usize,
@@ -85,6 +112,10 @@ pub enum Command {
     Reduce {
         at: usize,
         term: Term,
+    },
+    PrintAxioms {
+        at: usize,
+        name: Ident,
     },
     /// Tokens that are no command.
     Bad {
@@ -119,8 +150,8 @@ impl Decl {
         Ok(Decl {
             at: self.at,
             name: self.name.copy(alloc)?,
-            levels: copy_idents(alloc, self.levels.as_slice())?,
-            binders: copy_binders(alloc, self.binders.as_slice())?,
+            levels: self.levels.copy(alloc)?,
+            binders: self.binders.copy(alloc)?,
             ty: copy_option(alloc, &self.ty)?,
         })
     }
@@ -134,7 +165,7 @@ impl Helper {
         Ok(Helper {
             at: self.at,
             name: self.name.copy(alloc)?,
-            binders: copy_binders(alloc, self.binders.as_slice())?,
+            binders: self.binders.copy(alloc)?,
             ty: self.ty.copy(alloc)?,
             value: self.value.copy(alloc)?,
         })
@@ -149,34 +180,27 @@ impl CtorDecl {
         Ok(CtorDecl {
             at: self.at,
             name: self.name.copy(alloc)?,
-            binders: copy_binders(alloc, self.binders.as_slice())?,
+            binders: self.binders.copy(alloc)?,
             ty: copy_option(alloc, &self.ty)?,
         })
     }
 }
 
-fn copy_helpers(alloc: Global, helpers: &[Helper]) -> Result<Items<Helper>, NoMemory>
-    ensures { IfOk result (λ all. all ≡ helpers.now) }
-{
-    let mut all = Items::new(alloc);
-    for helper in helpers {
-        all.push(helper.copy(alloc)?)?;
+impl FieldDecl {
+    /// Equal fields; `NoMemory` is its one fault.
+    pub fn copy(&self, alloc: Global) -> Result<FieldDecl, NoMemory>
+        ensures { IfOk result (λ f. f ≡ self.now) }
+    {
+        Ok(FieldDecl {
+            at: self.at,
+            names: self.names.copy(alloc)?,
+            ty: self.ty.copy(alloc)?,
+        })
     }
-    Ok(all)
-}
-
-fn copy_ctors(alloc: Global, ctors: &[CtorDecl]) -> Result<Items<CtorDecl>, NoMemory>
-    ensures { IfOk result (λ all. all ≡ ctors.now) }
-{
-    let mut all = Items::new(alloc);
-    for ctor in ctors {
-        all.push(ctor.copy(alloc)?)?;
-    }
-    Ok(all)
 }
 
 impl Command {
-    /// An equal command; `NoMemory` is its one fault.
+    /// An equal command, which shares its lists and terms; `NoMemory` is its one fault.
     pub fn copy(&self, alloc: Global) -> Result<Command, NoMemory>
         ensures { IfOk result (λ c. c ≡ self.now) }
     {
@@ -186,33 +210,40 @@ impl Command {
                 decl,
                 value,
                 helpers,
-            } => {
-                let helpers = copy_helpers(alloc, helpers.as_slice())?;
-                Ok(Command::Def {
-                    decl: decl.copy(alloc)?,
-                    value: value.copy(alloc)?,
-                    helpers,
-                })
-            }
+            } => Ok(Command::Def {
+                decl: decl.copy(alloc)?,
+                value: value.copy(alloc)?,
+                helpers: helpers.copy(alloc)?,
+            }),
+            Command::Equations { decl, alternatives } => Ok(Command::Equations {
+                decl: decl.copy(alloc)?,
+                alternatives: alternatives.copy(alloc)?,
+            }),
             Command::Theorem {
                 decl,
                 value,
                 helpers,
-            } => {
-                let helpers = copy_helpers(alloc, helpers.as_slice())?;
-                Ok(Command::Theorem {
-                    decl: decl.copy(alloc)?,
-                    value: value.copy(alloc)?,
-                    helpers,
-                })
-            }
-            Command::Inductive { decl, ctors } => {
-                let ctors = copy_ctors(alloc, ctors.as_slice())?;
-                Ok(Command::Inductive {
-                    decl: decl.copy(alloc)?,
-                    ctors,
-                })
-            }
+            } => Ok(Command::Theorem {
+                decl: decl.copy(alloc)?,
+                value: value.copy(alloc)?,
+                helpers: helpers.copy(alloc)?,
+            }),
+            Command::Inductive { decl, ctors } => Ok(Command::Inductive {
+                decl: decl.copy(alloc)?,
+                ctors: ctors.copy(alloc)?,
+            }),
+            Command::Structure { decl, fields } => Ok(Command::Structure {
+                decl: decl.copy(alloc)?,
+                fields: fields.copy(alloc)?,
+            }),
+            Command::Class { decl, fields } => Ok(Command::Class {
+                decl: decl.copy(alloc)?,
+                fields: fields.copy(alloc)?,
+            }),
+            Command::Instance { decl, value } => Ok(Command::Instance {
+                decl: decl.copy(alloc)?,
+                value: value.copy(alloc)?,
+            }),
             Command::Namespace { at, name } => Ok(Command::Namespace {
                 at: *at,
                 name: name.copy(alloc)?,
@@ -227,15 +258,15 @@ impl Command {
             }),
             Command::OpenNames { at, names } => Ok(Command::OpenNames {
                 at: *at,
-                names: copy_idents(alloc, names.as_slice())?,
+                names: names.copy(alloc)?,
             }),
             Command::Universe { at, names } => Ok(Command::Universe {
                 at: *at,
-                names: copy_idents(alloc, names.as_slice())?,
+                names: names.copy(alloc)?,
             }),
             Command::Variable { at, binders } => Ok(Command::Variable {
                 at: *at,
-                binders: copy_binders(alloc, binders.as_slice())?,
+                binders: binders.copy(alloc)?,
             }),
             Command::Check { at, term } => Ok(Command::Check {
                 at: *at,
@@ -244,6 +275,10 @@ impl Command {
             Command::Reduce { at, term } => Ok(Command::Reduce {
                 at: *at,
                 term: term.copy(alloc)?,
+            }),
+            Command::PrintAxioms { at, name } => Ok(Command::PrintAxioms {
+                at: *at,
+                name: name.copy(alloc)?,
             }),
             Command::Bad { at, fault } => Ok(Command::Bad {
                 at: *at,

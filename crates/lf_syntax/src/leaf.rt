@@ -1,7 +1,7 @@
 ghost use Rattle.std.specs.Prelude.{◌≡◌, IfOk};
 
-use lf_core::{Name, NoMemory};
-use sqlite_items::Items;
+use lf_base::NoMemory;
+use lf_name::Name;
 use std::alloc::Global;
 
 /// An identifier as it is written.
@@ -18,22 +18,6 @@ pub struct Num {
     /// Where it begins, in bytes.
     pub at: usize,
     pub value: u128,
-}
-
-/// An operator between two terms.
-#[derive(Clone, Copy, Debug, PartialEq, Eq)]
-pub enum Op {
-    Iff,
-    Arrow,
-    Or,
-    And,
-    Eq,
-    Ne,
-    Add,
-    Sub,
-    Mul,
-    Div,
-    Mod,
 }
 
 /// Why the tokens of a command are no command.
@@ -65,15 +49,4 @@ impl Ident {
             name: self.name.copy(alloc)?,
         })
     }
-}
-
-/// A list of identifiers equal to `idents`.
-pub fn copy_idents(alloc: Global, idents: &[Ident]) -> Result<Items<Ident>, NoMemory>
-    ensures { IfOk result (λ all. all ≡ idents.now) }
-{
-    let mut all = Items::new(alloc);
-    for ident in idents {
-        all.push(ident.copy(alloc)?)?;
-    }
-    Ok(all)
 }

@@ -2,7 +2,7 @@ ghost use Rattle.std.specs.Prelude.{◌≡◌, IfOk};
 ghost use Rattle.lf_syntax.specs.Node.{level_tree};
 
 use crate::leaf::{Ident, Num};
-use lf_core::NoMemory;
+use lf_base::NoMemory;
 use std::alloc::Global;
 use std::marker::Model;
 use std::sync::Arc;

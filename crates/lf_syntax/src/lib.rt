@@ -4,13 +4,16 @@
 mod command;
 mod leaf;
 mod level;
-mod piece;
+mod pattern;
+mod shared;
 mod term;
 #[cfg(test)]
 mod tests;
 
-pub use command::{Command, CtorDecl, Decl, Helper};
-pub use leaf::{Ident, Num, Op, SyntaxFault, copy_idents};
+pub use command::{Command, CtorDecl, Decl, FieldDecl, Helper};
+pub use leaf::{Ident, Num, SyntaxFault};
 pub use level::{LevelNode, LevelTerm};
-pub use piece::{Spelling, Word};
-pub use term::{Binders, Item, ItemNode, LBinder, Rule, Term, TermNode, copy_binders};
+pub use lf_text::Op;
+pub use pattern::{Alternative, Pattern};
+pub use shared::Shared;
+pub use term::{Binders, Item, ItemNode, LBinder, Rule, Term, TermNode};

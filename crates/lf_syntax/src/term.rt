@@ -1,10 +1,12 @@
 ghost use Rattle.std.specs.Prelude.{◌≡◌, IfOk};
 ghost use Rattle.lf_syntax.specs.TermNode.{term_tree, item_tree};
 
-use crate::leaf::{Ident, Num, Op, copy_idents};
+use crate::leaf::{Ident, Num};
 use crate::level::LevelTerm;
-use lf_core::{BinderKind, NoMemory};
-use sqlite_items::Items;
+use crate::shared::Shared;
+use lf_base::NoMemory;
+use lf_name::BinderKind;
+use lf_text::Op;
 use std::alloc::Global;
 use std::marker::Model;
 use std::sync::Arc;
@@ -25,7 +27,7 @@ pub enum TermNode {
         at: usize,
         explicit: bool,
         name: Ident,
-        levels: Items<LevelTerm>,
+        levels: Shared<LevelTerm>,
     },
     Num(Num),
     Hole {
@@ -95,13 +97,13 @@ pub enum TermNode {
     },
 }
 
-/// `(names : ty)`, or with braces where the kind is implicit.
+/// `(names : ty)`, with braces where the kind is `Implicit`, with brackets where it is `Inst`.
 #[cycle(term)]
 #[derive(Debug, Drop)]
 pub struct Binders {
     pub at: usize,
     pub kind: BinderKind,
-    pub names: Items<Ident>,
+    pub names: Shared<Ident>,
     pub ty: Term,
 }
 
@@ -111,7 +113,7 @@ pub struct Binders {
 pub enum LBinder {
     Typed(Binders),
     Plain(Ident),
-    Implicit { at: usize, names: Items<Ident> },
+    Implicit { at: usize, names: Shared<Ident> },
 }
 
 /// A proof item. Contracts see the plain tree `ItemTree`.
@@ -135,7 +137,7 @@ pub enum ItemNode {
     },
     Intro {
         at: usize,
-        names: Items<Ident>,
+        names: Shared<Ident>,
     },
     Apply {
         at: usize,
@@ -291,19 +293,8 @@ impl Binders {
         Ok(Binders {
             at: self.at,
             kind: self.kind,
-            names: copy_idents(alloc, self.names.as_slice())?,
+            names: self.names.copy(alloc)?,
             ty: self.ty.copy(alloc)?,
         })
     }
-}
-
-/// A list of binders equal to `binders`.
-pub fn copy_binders(alloc: Global, binders: &[Binders]) -> Result<Items<Binders>, NoMemory>
-    ensures { IfOk result (λ all. all ≡ binders.now) }
-{
-    let mut all = Items::new(alloc);
-    for one in binders {
-        all.push(one.copy(alloc)?)?;
-    }
-    Ok(all)
 }

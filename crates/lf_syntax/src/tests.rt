@@ -1,9 +1,9 @@
 use crate::{
-    Binders, Command, CtorDecl, Decl, Helper, Ident, Item, ItemNode, LevelNode, LevelTerm, Num,
-    SyntaxFault, Term, TermNode,
+    Alternative, Binders, Command, CtorDecl, Decl, FieldDecl, Helper, Ident, Item, ItemNode,
+    LevelNode, LevelTerm, Num, Pattern, Shared, SyntaxFault, Term, TermNode,
 };
-use lf_core::{BinderKind, Name, NoMemory};
-use sqlite_items::Items;
+use lf_base::NoMemory;
+use lf_name::{BinderKind, Name};
 use std::alloc::Global;
 use std::test::Fail;
 
@@ -14,14 +14,14 @@ fn ident(alloc: Global, at: usize, text: &str) -> Result<Ident, NoMemory> {
     })
 }
 
-fn idents(alloc: Global) -> Result<Items<Ident>, NoMemory> {
-    let mut all = Items::new(alloc);
+fn idents(alloc: Global) -> Result<Shared<Ident>, NoMemory> {
+    let mut all = Vec::new(alloc);
     all.push(ident(alloc, 9, "u")?)?;
-    Ok(all)
+    Shared::of(alloc, all)
 }
 
-fn groups(alloc: Global) -> Result<Items<Binders>, NoMemory> {
-    let mut all = Items::new(alloc);
+fn groups(alloc: Global) -> Result<Shared<Binders>, NoMemory> {
+    let mut all = Vec::new(alloc);
     let names = idents(alloc)?;
     let ty = Term::of(alloc, TermNode::Hole { at: 14 })?;
     all.push(Binders {
@@ -30,7 +30,7 @@ fn groups(alloc: Global) -> Result<Items<Binders>, NoMemory> {
         names,
         ty,
     })?;
-    Ok(all)
+    Shared::of(alloc, all)
 }
 
 // `Sort (1 + 2)`
@@ -65,8 +65,8 @@ fn decl(alloc: Global) -> Result<Decl, NoMemory> {
     })
 }
 
-fn helpers(alloc: Global) -> Result<Items<Helper>, NoMemory> {
-    let mut all = Items::new(alloc);
+fn helpers(alloc: Global) -> Result<Shared<Helper>, NoMemory> {
+    let mut all = Vec::new(alloc);
     let name = ident(alloc, 50, "h")?;
     let binders = groups(alloc)?;
     let ty = sort(alloc)?;
@@ -78,11 +78,11 @@ fn helpers(alloc: Global) -> Result<Items<Helper>, NoMemory> {
         ty,
         value,
     })?;
-    Ok(all)
+    Shared::of(alloc, all)
 }
 
-fn ctors(alloc: Global) -> Result<Items<CtorDecl>, NoMemory> {
-    let mut all = Items::new(alloc);
+fn ctors(alloc: Global) -> Result<Shared<CtorDecl>, NoMemory> {
+    let mut all = Vec::new(alloc);
     let name = ident(alloc, 50, "c")?;
     let binders = groups(alloc)?;
     all.push(CtorDecl {
@@ -91,7 +91,27 @@ fn ctors(alloc: Global) -> Result<Items<CtorDecl>, NoMemory> {
         binders,
         ty: None,
     })?;
-    Ok(all)
+    Shared::of(alloc, all)
+}
+
+fn fields(alloc: Global) -> Result<Shared<FieldDecl>, NoMemory> {
+    let mut all = Vec::new(alloc);
+    let names = idents(alloc)?;
+    let ty = sort(alloc)?;
+    all.push(FieldDecl { at: 60, names, ty })?;
+    Shared::of(alloc, all)
+}
+
+fn alternatives(alloc: Global) -> Result<Shared<Alternative>, NoMemory> {
+    let mut all = Vec::new(alloc);
+    let term = proof(alloc)?;
+    let pattern = Pattern::Zero { at: 72 };
+    all.push(Alternative {
+        at: 70,
+        pattern: pattern.copy(alloc)?,
+        term,
+    })?;
+    Shared::of(alloc, all)
 }
 
 fn commands(alloc: Global) -> Result<Vec<Command>, NoMemory> {
@@ -107,6 +127,16 @@ fn commands(alloc: Global) -> Result<Vec<Command>, NoMemory> {
     all.push(Command::Inductive {
         decl: decl(alloc)?,
         ctors,
+    })?;
+    let fields = fields(alloc)?;
+    all.push(Command::Class {
+        decl: decl(alloc)?,
+        fields,
+    })?;
+    let alternatives = alternatives(alloc)?;
+    all.push(Command::Equations {
+        decl: decl(alloc)?,
+        alternatives,
     })?;
     let names = idents(alloc)?;
     all.push(Command::OpenNames { at: 1, names })?;

@@ -13,7 +13,7 @@ use Rattle.std.proofs.lemmas.List.Sorted.{searchable_from_sorted}
 use Rattle.std.proofs.lemmas.Bool.{cases_lt}
 use Rattle.std.proofs.lemmas.Slice.Eq.{bytes_eq-Decides}
 use Rattle.std.specs.Borrow.{Bor}
-use Rattle.lf_tables.specs.Rows.{Row, rows_of, is_before, keys_rise, value_of, longest_of, reach}
+use Rattle.lf_tables.specs.Rows.{Row, rows_of, is_before, keys_rise, value_of}
 
 -- what the comparison of two keys gives
 abbrev compare : List ℕ → List ℕ → Ordering
@@ -154,12 +154,3 @@ row_there key (r ∷ rows) v f = row_step key r rows v (bytes_eq r.0 key) refl (
 -- the value found is that of a written row
 pub written : {V : Type 0} (key : List ℕ) (rows : List (Row V)) (v : V) → keys_rise rows ≡ true → value_of key rows ≡ Some v ↔ Contains rows (key, v)
 written key rows v e = (row_there key rows v, row_found key rows v e)
-
-reach_nil : (key : List ℕ) → reach key [] ≡ 0
-reach_nil [] = refl
-reach_nil (b ∷ key) = refl
-
--- no key stands where the text is at its end
-pub longest_of-nil : {V : Type 0} (rows : List (Row V)) → longest_of rows [] ≡ 0
-longest_of-nil [] = refl
-longest_of-nil (r ∷ rows) = let here : reach r.0 [] ≡ 0 = reach_nil r.0 in let rest : longest_of rows [] ≡ 0 = longest_of-nil rows in rw (here, rest) refl

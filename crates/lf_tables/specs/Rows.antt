@@ -1,4 +1,4 @@
-use Rattle.std.specs.Prelude.{ℕ, List, [], ◌∷◌, map, max, cond, Bool, true, ◌&&◌, Option, None, Some, length, bytes_eq, nat_eq}
+use Rattle.std.specs.Prelude.{ℕ, List, [], ◌∷◌, map, cond, Bool, true, ◌&&◌, Option, None, Some, length, bytes_eq, nat_eq, nat_lt}
 use Rattle.std.specs.Borrow.{Bor}
 use Rattle.std.specs.List.{starts_with}
 use Rattle.std.specs.Ordering.{nat_cmp, is_lt}
@@ -27,11 +27,17 @@ abbrev pub value_of : {V : Type 0} → List ℕ → List (Row V) → Option V
 value_of key [] = None
 value_of key (r ∷ rows) = cond (bytes_eq r.0 key) (Some r.1) (value_of key rows)
 
--- the length of the key where the text begins with it, else 0
-abbrev pub reach : List ℕ → List ℕ → ℕ
-reach key text = cond (starts_with nat_eq text key) (length key) 0
+-- a row's key, by its length, and its value, where the text begins with the key
+abbrev pub reached : {V : Type 0} → Row V → List ℕ → Option (ℕ × V)
+reached r text = cond (starts_with nat_eq text r.0) (Some (length r.0, r.1)) None
 
--- the greatest length of a key that the text begins with, or 0
-abbrev pub longest_of : {V : Type 0} → List (Row V) → List ℕ → ℕ
-longest_of [] text = 0
-longest_of (r ∷ rows) text = max (reach r.0 text) (longest_of rows text)
+-- the longer of two keys with their values, the first where they are as long
+abbrev pub longer : {V : Type 0} → Option (ℕ × V) → Option (ℕ × V) → Option (ℕ × V)
+longer None q = q
+longer (Some p) None = Some p
+longer (Some p) (Some q) = cond (nat_lt p.0 q.0) (Some q) (Some p)
+
+-- the length and the value of the longest key that the text begins with
+abbrev pub longest_of : {V : Type 0} → List (Row V) → List ℕ → Option (ℕ × V)
+longest_of [] text = None
+longest_of (r ∷ rows) text = longer (reached r text) (longest_of rows text)

@@ -1,8 +1,9 @@
 //! Tables of rows, each a key and its value.
 #![tactic(auto)]
 
-ghost use Rattle.std.specs.Prelude.{◌≡◌, ◌↔◌, ◌≤◌, drop, IsTrue, Some, Contains};
-ghost use Rattle.lf_tables.specs.Rows.{value_of, longest_of, keys_rise, rows_of};
+ghost use Rattle.std.specs.Prelude.{◌≡◌, ◌↔◌, ◌≤◌, drop, nat_eq, IsTrue, Some, Contains};
+ghost use Rattle.std.specs.List.{starts_with};
+ghost use Rattle.lf_tables.specs.Rows.{value_of, longest_of, longer, keys_rise, rows_of};
 
 use std::marker::Model;
 
@@ -44,22 +45,43 @@ impl<'a, V: Copy> Table<'a, V> {
         }
     }
 
-    /// The length in bytes of the longest key that stands in `text` at the byte `at`, or 0.
-    /// Takes no memory.
-    pub fn longest(&self, text: &str, at: usize) -> usize
+    /// The length in bytes and the value of the longest key that stands in `text` at the byte `at`;
+    /// `None` exactly where none does. Takes no memory.
+    pub fn longest(&self, text: &str, at: usize) -> Option<(usize, V)>
         ensures { result ≡ longest_of self.now (drop at text.now) }
     {
-        let Some(rest) = text.as_bytes().get(at..) else {
-            return 0;
-        };
-        let mut most = 0;
+        let rest = text.as_bytes().get(at..).unwrap_or(&[]);
+        let mut best = None;
         'rows: for row in self.rows {
             let key = row.0.as_bytes();
-            if rest.starts_with(key) && key.len() > most {
-                most = key.len();
+            if stands(rest, key) {
+                best = longer(best, (key.len(), row.1));
             }
         }
-        most
+        best
+    }
+}
+
+/// Whether the text begins with the key. Most keys of a table already differ in their first byte.
+fn stands(text: &[u8], key: &[u8]) -> bool
+    ensures { result ≡ starts_with nat_eq text.now key.now }
+{
+    match key {
+        [] => true,
+        [first, more @ ..] => match text {
+            [] => false,
+            [next, rest @ ..] => first == next && rest.starts_with(more),
+        },
+    }
+}
+
+/// The longer of the keys with their values, the first where they are as long.
+fn longer<V: Copy>(best: Option<(usize, V)>, next: (usize, V)) -> Option<(usize, V)>
+    ensures { result ≡ longer best (Some next) }
+{
+    match best {
+        Some(most) if most.0 >= next.0 => Some(most),
+        _ => Some(next),
     }
 }
 
@@ -108,30 +130,30 @@ mod tests {
     #[test]
     fn takes_the_longest_key(rt: HostRuntime) {
         let rows = rows! {
-            "-" => (),
-            "->" => (),
-            ":" => (),
-            ":=" => (),
-            "<-" => (),
-            "<->" => (),
-            "→" => (),
+            "-" => 'm',
+            "->" => 'r',
+            ":" => 'c',
+            ":=" => 'a',
+            "<-" => 'l',
+            "<->" => 'i',
+            "→" => 'r',
         };
         let table = Table::new(&rows);
-        for (text, at, len) in [
-            ("-", 0, 1),
-            ("->", 0, 2),
-            ("--", 0, 1),
-            ("<-", 0, 2),
-            ("<->", 0, 3),
-            ("<", 0, 0),
-            ("x:=y", 1, 2),
-            ("x: =y", 1, 1),
-            ("a → b", 2, 3),
-            ("a → b", 3, 0),
-            ("a", 1, 0),
-            ("a", 7, 0),
+        for (text, at, wanted) in [
+            ("-", 0, Some((1, 'm'))),
+            ("->", 0, Some((2, 'r'))),
+            ("--", 0, Some((1, 'm'))),
+            ("<-", 0, Some((2, 'l'))),
+            ("<->", 0, Some((3, 'i'))),
+            ("<", 0, None),
+            ("x:=y", 1, Some((2, 'a'))),
+            ("x: =y", 1, Some((1, 'c'))),
+            ("a → b", 2, Some((3, 'r'))),
+            ("a → b", 3, None),
+            ("a", 1, None),
+            ("a", 7, None),
         ] {
-            assert_eq!(rt; table.longest(text, at), len, "at {at} of {text}");
+            assert_eq!(rt; table.longest(text, at), wanted, "at {at} of {text}");
         }
     }
 }

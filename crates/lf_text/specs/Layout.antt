@@ -1,11 +1,15 @@
-use Rattle.std.specs.Prelude.{ℕ, ◌+◌, List, [], ◌∷◌, ◌++◌, take, drop, Bool, true, false, not, ◌||◌, ◌&&◌, ◌==◌, nat_lt, if◌then◌else◌, bytes_eq, replicate, count_by}
+-- The rules of layout: what they put before each token.
+use Rattle.std.specs.Prelude.{ℕ, ◌+◌, List, [], ◌∷◌, ◌++◌, take, drop, Bool, true, false, not, ◌||◌, ◌&&◌, ◌==◌, nat_lt, if◌then◌else◌, replicate, count_by}
 use Rattle.std.specs.List.{prefix_len}
 use Rattle.lf_text.specs.declared.frame.Frame.{Frame}
 use Rattle.lf_text.specs.declared.frame.Frame.TheVariants.{Block, Bracket}
+use Rattle.lf_text.specs.declared.role.Role.{Role}
+use Rattle.lf_text.specs.declared.role.Role.TheVariants.{Command, BlockOpener, Where, Bar, Opening, Closing}
 use Rattle.lf_text.specs.declared.token.Token.{Token}
-use Rattle.lf_text.specs.declared.token.TokenKind.{TokenKind}
-use Rattle.lf_text.specs.declared.token.TokenKind.TheVariants.{Open, Sep, Close}
-use Rattle.lf_text.specs.Words.{utf8, is_among, begins_command, block_openers, opening_brackets, closing_brackets}
+use Rattle.lf_text.specs.declared.token.TokenKind.TheVariants as kind
+use Rattle.lf_text.specs.declared.word.Word.{Word}
+use Rattle.lf_text.specs.declared.word.Word.TheVariants.{LayoutOpen, LayoutSep, LayoutClose}
+use Rattle.lf_text.specs.Roles.{role_of, is}
 use Rattle.lf_text.specs.Place.{line_of, column_of}
 
 -- the bytes of a token
@@ -13,17 +17,16 @@ abbrev pub spelled : List ℕ → Token → List ℕ
 spelled bytes t = take t.len (drop t.at bytes)
 
 -- a layout token at a place
-abbrev pub mark : TokenKind → ℕ → Token
-mark kind at = record { at = at; len = 0; kind = kind }
+abbrev pub mark : Word → ℕ → Token
+mark word at = record { at = at; len = 0; kind = kind.Word word }
 
 -- the token is the first on its line, where this one comes before it
 abbrev pub is_first : List ℕ → Token → Token → Bool
 is_first bytes previous t = nat_lt (line_of bytes previous.at) (line_of bytes t.at)
 
 -- a block opens between two tokens: after `by`, `·`, and a `where` whose next token isn't `|`
-abbrev pub opens_block : List ℕ → List ℕ → Bool
-opens_block previous text =
-    is_among block_openers previous || (bytes_eq (utf8 "where") previous && not (bytes_eq (utf8 "|") text))
+abbrev pub opens_block : Role → Role → Bool
+opens_block previous role = is BlockOpener previous || (is Where previous && not (is Bar role))
 
 -- What is open is listed from the innermost on.
 
@@ -72,58 +75,60 @@ nothing frames = record { tokens = []; frames = frames }
 
 -- the innermost n blocks close
 abbrev pub close : ℕ → ℕ → Put → Put
-close at n put = record { tokens = put.tokens ++ replicate n (mark Close at); frames = drop n put.frames }
+close at n put = record { tokens = put.tokens ++ replicate n (mark LayoutClose at); frames = drop n put.frames }
 
 -- a block of this column opens
 abbrev pub open_block : ℕ → ℕ → Put → Put
-open_block at column put = record { tokens = put.tokens ++ mark Open at ∷ []; frames = Block column ∷ put.frames }
+open_block at column put = record { tokens = put.tokens ++ mark LayoutOpen at ∷ []; frames = Block column ∷ put.frames }
 
 -- a Sep, where a block of this column is the innermost thing open
 abbrev pub part_items : ℕ → ℕ → Put → Put
 part_items at column put =
-    record put { tokens = put.tokens ++ (if is_block_at column put.frames then mark Sep at ∷ [] else []) }
+    record put { tokens = put.tokens ++ (if is_block_at column put.frames then mark LayoutSep at ∷ [] else []) }
 
 -- at a token that is the first on its line: deeper blocks close, and a block of its column goes on
 abbrev pub new_line : ℕ → ℕ → Put → Put
 new_line at column put = part_items at column (close at (deeper_blocks column put.frames) put)
 
 -- at a `where`: all blocks above the innermost open bracket close
-abbrev pub at_where : ℕ → List ℕ → Put → Put
-at_where at text put = if bytes_eq (utf8 "where") text then close at (blocks_above put.frames) put else put
+abbrev pub at_where : ℕ → Role → Put → Put
+at_where at role put = if is Where role then close at (blocks_above put.frames) put else put
 
--- at a closing bracket: the blocks above its bracket close, and the bracket
-abbrev pub at_closing : ℕ → List ℕ → Put → Put
-at_closing at text put =
-    if is_among closing_brackets text && has_bracket put.frames
-    then (let closed = close at (blocks_above put.frames) put in record closed { frames = drop 1 closed.frames })
-    else put
+-- the innermost bracket closes, and the blocks above it
+abbrev pub close_bracket : ℕ → Put → Put
+close_bracket at put = let closed = close at (blocks_above put.frames) put in record closed { frames = drop 1 closed.frames }
 
--- inside a command: what the rules put before a token
-abbrev pub put_inside : List ℕ → Token → List Frame → Token → Put
-put_inside bytes previous frames t =
-    let text = spelled bytes t in
-    let column = column_of bytes t.at in
-    at_closing t.at text
-    (if opens_block (spelled bytes previous) text
-    then at_where t.at text (open_block t.at column (nothing frames))
-    else (if is_first bytes previous t
-    then new_line t.at column (at_where t.at text (nothing frames))
-    else at_where t.at text (nothing frames)))
+-- at a closing bracket: it closes its bracket, if one is open
+abbrev pub at_closing : ℕ → Role → Put → Put
+at_closing at role put = if is Closing role && has_bracket put.frames then close_bracket at put else put
 
--- what is put before a token; the end of a command, behind its last token, closes all its blocks
+-- inside a command: what the rules put before a token of this column, behind which a block opens or which is the first on its line
+abbrev pub put_inside : ℕ → ℕ → Role → Bool → Bool → Put → Put
+put_inside at column role opens first put =
+    at_closing at role
+    (if opens then at_where at role (open_block at column put)
+    else (if first then new_line at column (at_where at role put) else at_where at role put))
+
+-- the end of a command, behind its last token, closes all its blocks
+abbrev pub end_command : ℕ → Put → Put
+end_command at put = record { tokens = put.tokens ++ replicate (blocks put.frames) (mark LayoutClose at); frames = [] }
+
+-- what is put before a token; the command before it ends at a place
+abbrev pub put_led : ℕ → ℕ → ℕ → Role → Bool → Bool → Put → Put
+put_led at column end role opens first put = if is Command role then end_command end put else put_inside at column role opens first put
+
 abbrev pub put_before : List ℕ → Token → List Frame → Token → Put
 put_before bytes previous frames t =
-    if begins_command (spelled bytes t)
-    then record { tokens = replicate (blocks frames) (mark Close (previous.at + previous.len)); frames = [] }
-    else put_inside bytes previous frames t
+    put_led t.at (column_of bytes t.at) (previous.at + previous.len) (role_of t.kind) (opens_block (role_of previous.kind) (role_of t.kind)) (is_first bytes previous t)
+    (nothing frames)
 
 -- what is open behind a token
-abbrev pub frames_after : List ℕ → Token → List Frame → List Frame
-frames_after bytes t frames = if is_among opening_brackets (spelled bytes t) then Bracket ∷ frames else frames
+abbrev pub frames_after : Role → List Frame → List Frame
+frames_after role frames = if is Opening role then Bracket ∷ frames else frames
 
 -- the tokens with the layout tokens of the rules; `previous` comes before them
 abbrev pub laid_out : List ℕ → Token → List Frame → List Token → List Token
-laid_out bytes previous frames [] = replicate (blocks frames) (mark Close (previous.at + previous.len))
+laid_out bytes previous frames [] = replicate (blocks frames) (mark LayoutClose (previous.at + previous.len))
 laid_out bytes previous frames (t ∷ tokens) =
     let put = put_before bytes previous frames t in
-    put.tokens ++ (t ∷ laid_out bytes t (frames_after bytes t put.frames) tokens)
+    put.tokens ++ (t ∷ laid_out bytes t (frames_after (role_of t.kind) put.frames) tokens)

@@ -1,14 +1,16 @@
 use Rattle.std.specs.Prelude.{ℕ, zero, suc, ◌+◌, ◌-◌, ◌^◌, List, [], ◌∷◌, ◌++◌, length, take, drop, max, Bool, false, not, ◌||◌, ◌&&◌, ◌==◌, nat_le, nat_lt, nat_eq, if◌then◌else◌, Option, None, Some, is_some, unwrap_or, option_map, codes}
 use Rattle.std.specs.Option.{option_to_list}
-use Rattle.std.specs.List.{prefix_len, list_all, slice_split, starts_with}
+use Rattle.std.specs.List.{prefix_len, list_all, list_any, slice_split, starts_with}
 use Rattle.std.specs.Str.{encode_utf8_all, chars}
 use Rattle.std.specs.Str.Parse.{digits_value}
 use Rattle.std.specs.Char.{len_utf8}
 use Rattle.unicode_ident.specs.Ident.{is_xid_start, is_xid_continue}
 use Rattle.lf_text.specs.declared.token.Token.{Token}
 use Rattle.lf_text.specs.declared.token.TokenKind.{TokenKind}
-use Rattle.lf_text.specs.declared.token.TokenKind.TheVariants.{Ident, Word, Symbol, Num, BadChar, OpenComment, BadNum, WideNum}
-use Rattle.lf_text.specs.Words.{is_among, reserved_words, symbols}
+use Rattle.lf_text.specs.declared.token.TokenKind.TheVariants.{Ident, Num, BadChar, OpenComment, BadNum, WideNum}
+use Rattle.lf_text.specs.declared.word.Spelling.TheVariants.{Plain, Several}
+use Rattle.lf_tables.specs.Rows.{value_of}
+use Rattle.lf_text.specs.Words.{named, symbols}
 use Rattle.lf_text.specs.Place.{is_line_feed}
 
 -- white space but comments: space, U+0009, U+000A and U+000D
@@ -45,11 +47,15 @@ is_numeral cs = nat_lt 0 (length cs) && list_all is_digit cs
 abbrev pub is_bad_numeral : List ℕ → Bool
 is_bad_numeral cs = is_numeral (take (prefix_len is_digit cs) cs) && is_part (drop (prefix_len is_digit cs) cs)
 
+-- what kind of token a name is: what the table says, else an identifier of one part or of several
+abbrev pub name_kind : List ℕ → TokenKind
+name_kind cs = unwrap_or (value_of (encode_utf8_all cs) named) (Ident (if list_any (λ c. c == 46) cs then Several else Plain))
+
 -- what kind of token the characters are by themselves, if they are one
 abbrev pub kind_of : List ℕ → Option TokenKind
 kind_of cs =
-    if is_name cs then Some (if is_among reserved_words (encode_utf8_all cs) then Word else Ident)
-    else (if is_among symbols (encode_utf8_all cs) then Some Symbol
+    if is_name cs then Some (name_kind cs)
+    else (if is_some (value_of (encode_utf8_all cs) symbols) then value_of (encode_utf8_all cs) symbols
     else (if is_numeral cs then Some (if nat_lt (digits_value 10 cs) (2 ^ 128) then Num (digits_value 10 cs) else WideNum)
     else (if is_bad_numeral cs then Some BadNum else None)))
 

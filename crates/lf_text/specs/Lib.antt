@@ -1,7 +1,9 @@
 pub mod Layout
 pub mod Lexemes
 pub mod Nesting
+pub mod Operators
 pub mod Place
+pub mod Roles
 pub mod Starts
 pub mod Tokens
 pub mod Words

@@ -1,20 +1,17 @@
+use crate::operator::Op;
+use crate::word::{Spelling, Word};
+
 /// What a token is. Tokens are those of docs/language.md.
 #[derive(Clone, Copy, Debug, PartialEq, Eq)]
 pub enum TokenKind {
     /// An identifier: parts joined by dots.
-    Ident,
-    /// A reserved word, or the lone `_`.
-    Word,
-    /// A symbol.
-    Symbol,
+    Ident(Spelling),
+    /// A reserved word, a symbol that isn't an operator between terms, or a layout token.
+    Word(Word),
+    /// An operator between two terms.
+    Operator(Op),
     /// A numeral below 2^128, and its value.
     Num(u128),
-    /// The beginning of a block, put in by the layout rules.
-    Open,
-    /// What parts two items of a block, put in by the layout rules.
-    Sep,
-    /// The end of a block, put in by the layout rules.
-    Close,
     /// A character that begins no token.
     BadChar,
     /// A `/-` with no `-/` of its own, through the end of the text.

@@ -8,11 +8,14 @@ use Rattle.std.proofs.lemmas.Str.{encodes-append}
 use Rattle.lf_text.specs.declared.frame.Frame.{Frame}
 use Rattle.lf_text.specs.declared.token.Token.{Token}
 use Rattle.lf_text.specs.declared.token.TokenKind.{TokenKind}
-use Rattle.lf_text.specs.declared.token.TokenKind.TheVariants.{Open, Sep, Close}
+use Rattle.lf_text.specs.declared.word.Word.{Word}
+use Rattle.lf_text.specs.declared.word.Word.TheVariants.{LayoutOpen, LayoutSep, LayoutClose}
 use Rattle.lf_text.specs.Place.{is_line_feed, column_of}
-use Rattle.lf_text.specs.Words.{begins_command}
+use Rattle.lf_text.specs.declared.role.Role.{Role}
+use Rattle.lf_text.specs.declared.role.Role.TheVariants.{Command}
+use Rattle.lf_text.specs.Roles.{role_of, is}
 use Rattle.lf_text.specs.Lexemes.{through, is_white, piece_at, comment_at, kind_of, longest_up_to, longest_token, lexeme, lexemes_from, lexemes_of}
-use Rattle.lf_text.specs.Layout.{Put, mark, nothing, close, open_block, part_items, new_line, at_where, at_closing, blocks, blocks_above, deeper_blocks, is_block_at, spelled, is_first, opens_block, put_inside, put_before, frames_after, laid_out}
+use Rattle.lf_text.specs.Layout.{Put, mark, nothing, close, open_block, part_items, new_line, at_where, at_closing, end_command, blocks, blocks_above, deeper_blocks, is_block_at, is_first, opens_block, put_inside, put_before, frames_after, laid_out}
 use Rattle.lf_text.specs.Tokens.{tokens_of}
 use Rattle.lf_token.specs.Spelling.{width}
 use Rattle.lf_token.specs.Cover.{IsSpace, IsBlank, Covers}
@@ -216,9 +219,9 @@ marks_append : (p : ℕ) (xs ys : List Token) → AllMarks p xs → AllMarks p y
 marks_append p [] ys a b = b
 marks_append p (x ∷ xs) ys a b = (a.0, a.1, marks_append p xs ys a.2 b)
 
-marks_replicate : (p n : ℕ) (kind : TokenKind) → AllMarks p (replicate n (mark kind p))
-marks_replicate p zero kind = tt
-marks_replicate p (suc n) kind = (refl, refl, marks_replicate p n kind)
+marks_replicate : (p n : ℕ) (word : Word) → AllMarks p (replicate n (mark word p))
+marks_replicate p zero word = tt
+marks_replicate p (suc n) word = (refl, refl, marks_replicate p n word)
 
 abbrev Marked : ℕ → Put → Type 0
 Marked p put = AllMarks p put.tokens
@@ -228,40 +231,38 @@ marked_cond p true x y a c = a
 marked_cond p false x y a c = c
 
 marked_close : (p n : ℕ) (put : Put) → Marked p put → Marked p (close p n put)
-marked_close p n put a = marks_append p put.tokens (replicate n (mark Close p)) a (marks_replicate p n Close)
+marked_close p n put a = marks_append p put.tokens (replicate n (mark LayoutClose p)) a (marks_replicate p n LayoutClose)
 
 marked_open : (p column : ℕ) (put : Put) → Marked p put → Marked p (open_block p column put)
-marked_open p column put a = marks_append p put.tokens (mark Open p ∷ []) a (refl, refl, tt)
+marked_open p column put a = marks_append p put.tokens (mark LayoutOpen p ∷ []) a (refl, refl, tt)
 
 marked_part : (p column : ℕ) (put : Put) → Marked p put → Marked p (part_items p column put)
-marked_part p column put a = marks_append p put.tokens (cond (is_block_at column put.frames) (mark Sep p ∷ []) []) a (step (is_block_at column put.frames))
+marked_part p column put a = marks_append p put.tokens (cond (is_block_at column put.frames) (mark LayoutSep p ∷ []) []) a (step (is_block_at column put.frames))
   where
-    step : (b : Bool) → AllMarks p (cond b (mark Sep p ∷ []) [])
+    step : (b : Bool) → AllMarks p (cond b (mark LayoutSep p ∷ []) [])
     step true = (refl, refl, tt)
     step false = tt
 
-marked_where : (p : ℕ) (text : List ℕ) (put : Put) → Marked p put → Marked p (at_where p text put)
-marked_where p text put a = marked_cond p _ (close p (blocks_above put.frames) put) put (marked_close p (blocks_above put.frames) put a) a
+marked_where : (p : ℕ) (role : Role) (put : Put) → Marked p put → Marked p (at_where p role put)
+marked_where p role put a = marked_cond p _ (close p (blocks_above put.frames) put) put (marked_close p (blocks_above put.frames) put a) a
 
 marked_line : (p column : ℕ) (put : Put) → Marked p put → Marked p (new_line p column put)
 marked_line p column put a = marked_part p column (close p (deeper_blocks column put.frames) put) (marked_close p (deeper_blocks column put.frames) put a)
 
-marked_closing : (p : ℕ) (text : List ℕ) (put : Put) → Marked p put → Marked p (at_closing p text put)
-marked_closing p text put a = marked_cond p _ _ put (marked_close p (blocks_above put.frames) put a) a
+marked_closing : (p : ℕ) (role : Role) (put : Put) → Marked p put → Marked p (at_closing p role put)
+marked_closing p role put a = marked_cond p _ _ put (marked_close p (blocks_above put.frames) put a) a
 
-marked_inside : (bytes : List ℕ) (previous : Token) (frames : List Frame) (t : Token) → Marked t.at (put_inside bytes previous frames t)
-marked_inside bytes previous frames t =
-    let text : List ℕ = spelled bytes t in
-    let column : ℕ = column_of bytes t.at in
-    let opened_first : Put = at_where t.at (spelled bytes t) (open_block t.at (column_of bytes t.at) (nothing frames)) in
-    let lined : Put = new_line t.at (column_of bytes t.at) (at_where t.at (spelled bytes t) (nothing frames)) in
-    let plain : Put = at_where t.at (spelled bytes t) (nothing frames) in
-    marked_closing t.at text (cond (opens_block (spelled bytes previous) (spelled bytes t)) opened_first (cond (is_first bytes previous t) lined plain))
-    (marked_cond t.at (opens_block (spelled bytes previous) (spelled bytes t)) opened_first (cond (is_first bytes previous t) lined plain)
-    (marked_where t.at text (open_block t.at column (nothing frames)) (marked_open t.at column (nothing frames) tt))
-    (marked_cond t.at (is_first bytes previous t) lined plain
-    (marked_line t.at column plain (marked_where t.at text (nothing frames) tt))
-    (marked_where t.at text (nothing frames) tt)))
+marked_inside : (at column : ℕ) (role : Role) (opens first : Bool) (frames : List Frame) → Marked at (put_inside at column role opens first (nothing frames))
+marked_inside at column role opens first frames =
+    let opened_first : Put = at_where at role (open_block at column (nothing frames)) in
+    let lined : Put = new_line at column (at_where at role (nothing frames)) in
+    let plain : Put = at_where at role (nothing frames) in
+    marked_closing at role (cond opens opened_first (cond first lined plain))
+    (marked_cond at opens opened_first (cond first lined plain)
+    (marked_where at role (open_block at column (nothing frames)) (marked_open at column (nothing frames) tt))
+    (marked_cond at first lined plain
+    (marked_line at column plain (marked_where at role (nothing frames) tt))
+    (marked_where at role (nothing frames) tt)))
 
 -- so they cover nothing, where they stand at the end of the last token
 marks_here : (marks : List Token) (p at : ℕ) (cs : List ℕ) (tokens : List Token) → AllMarks p marks → p ≡ at → Covers at cs tokens → Covers at cs (marks ++ tokens)
@@ -293,27 +294,28 @@ marks_before (m ∷ marks) at cs t tokens a (gap, text, rest, e, b, p, l, c) = (
       ([], text, rest, refl, none, omega (arith, a.0, a.1), l, c),
 )
 
-covers_put : (b : Bool) (bytes : List ℕ) (previous : Token) (frames : List Frame) (at : ℕ) (cs : List ℕ) (t : Token) (tokens : List Token) → previous.at + previous.len ≡ at →
+covers_put : (b : Bool) (column end : ℕ) (role : Role) (opens first : Bool) (frames : List Frame) (at : ℕ) (cs : List ℕ) (t : Token) (tokens : List Token) → end ≡ at →
     Covers at cs (t ∷ tokens) →
-    Covers at cs ((cond b (let put : Put = record { tokens = replicate (blocks frames) (mark Close (previous.at + previous.len)); frames = [] } in put) (put_inside bytes previous frames t)).tokens ++ (t ∷ tokens))
-covers_put true bytes previous frames at cs t tokens e c =
-    marks_here (replicate (blocks frames) (mark Close (previous.at + previous.len))) (previous.at + previous.len) at cs (t ∷ tokens)
-    (marks_replicate (previous.at + previous.len) (blocks frames) Close) e c
-covers_put false bytes previous frames at cs t tokens e c = marks_before (put_inside bytes previous frames t).tokens at cs t tokens (marked_inside bytes previous frames t) c
+    Covers at cs ((cond b (end_command end (nothing frames)) (put_inside t.at column role opens first (nothing frames))).tokens ++ (t ∷ tokens))
+covers_put true column end role opens first frames at cs t tokens e c =
+    marks_here (replicate (blocks frames) (mark LayoutClose end)) end at cs (t ∷ tokens) (marks_replicate end (blocks frames) LayoutClose) e c
+covers_put false column end role opens first frames at cs t tokens e c =
+    marks_before (put_inside t.at column role opens first (nothing frames)).tokens at cs t tokens (marked_inside t.at column role opens first frames) c
 
 covers_laid : (bytes : List ℕ) (previous : Token) (frames : List Frame) (at : ℕ) (cs : List ℕ) (tokens : List Token) → previous.at + previous.len ≡ at →
     Covers at cs tokens → Covers at cs (laid_out bytes previous frames tokens)
 covers_laid bytes previous frames at cs [] e c =
-    subst (Covers at cs) (append-nil (replicate (blocks frames) (mark Close (previous.at + previous.len))))
-    (marks_here (replicate (blocks frames) (mark Close (previous.at + previous.len))) (previous.at + previous.len) at cs []
-    (marks_replicate (previous.at + previous.len) (blocks frames) Close) e c)
+    subst (Covers at cs) (append-nil (replicate (blocks frames) (mark LayoutClose (previous.at + previous.len))))
+    (marks_here (replicate (blocks frames) (mark LayoutClose (previous.at + previous.len))) (previous.at + previous.len) at cs []
+    (marks_replicate (previous.at + previous.len) (blocks frames) LayoutClose) e c)
 covers_laid bytes previous frames at cs (t ∷ tokens) e (gap, text, rest, f, b, p, l, c) =
-    covers_put (begins_command (spelled bytes t)) bytes previous frames at cs t _ e
-    (gap, text, rest, f, b, p, l, covers_laid bytes t (frames_after bytes t (put_before bytes previous frames t).frames) (t.at + t.len) rest tokens refl c)
+    covers_put (is Command (role_of t.kind)) (column_of bytes t.at) (previous.at + previous.len) (role_of t.kind) (opens_block (role_of previous.kind) (role_of t.kind)) (is_first bytes previous t)
+    frames at cs t _ e
+    (gap, text, rest, f, b, p, l, covers_laid bytes t (frames_after (role_of t.kind) (put_before bytes previous frames t).frames) (t.at + t.len) rest tokens refl c)
 
 -- the tokens of a text cover it
 pub tokens_cover : (bytes : List ℕ) → Covers 0 (chars bytes) (tokens_of bytes)
 unfolding tokens_of lexemes_of
 tokens_cover bytes =
-    covers_laid bytes (mark Close 0) [] 0 (chars bytes) (lexemes_from 0 0 (chars bytes)) refl
+    covers_laid bytes (mark LayoutClose 0) [] 0 (chars bytes) (lexemes_from 0 0 (chars bytes)) refl
     (covers_lexemes (length (chars bytes)) 0 0 [] (chars bytes) (omega arith) none refl)

@@ -8,7 +8,7 @@ use Rattle.std.proofs.lemmas.List.Recursion.{is_count_by}
 use Rattle.lf_text.specs.declared.frame.Frame.{Frame}
 use Rattle.lf_text.specs.declared.frame.Frame.TheVariants.{Block, Bracket}
 use Rattle.lf_text.specs.declared.token.Token.{Token}
-use Rattle.lf_text.specs.declared.token.TokenKind.TheVariants.{Close}
+use Rattle.lf_text.specs.declared.word.Word.TheVariants.{LayoutClose}
 use Rattle.lf_text.specs.Layout.{Put, mark, close, is_block, is_bracket, is_deeper}
 
 -- the last n frames taken off
@@ -66,10 +66,10 @@ above_within (Bracket ∷ fs) = omega arith
 abbrev pub viewed : List Token → List Frame → Put
 viewed tokens frames = record { tokens = tokens; frames = reverse frames }
 
-pub closed : (tokens tokens' : List Token) (frames frames' : List Frame) (at n : ℕ) → tokens' ≡ tokens ++ replicate n (mark Close at) →
+pub closed : (tokens tokens' : List Token) (frames frames' : List Frame) (at n : ℕ) → tokens' ≡ tokens ++ replicate n (mark LayoutClose at) →
     frames' ≡ take (length frames - n) frames → n ≤ length frames → viewed tokens' frames' ≡ close at n (viewed tokens frames)
 closed tokens tokens' frames frames' at n e f l =
-    ap (λ ts. viewed ts frames') e ∙ ap (λ (fs : List Frame). let p : Put = record { tokens = tokens ++ replicate n (mark Close at); frames = fs } in p) (ap reverse f ∙ reverse_truncate frames n l)
+    ap (λ ts. viewed ts frames') e ∙ ap (λ (fs : List Frame). let p : Put = record { tokens = tokens ++ replicate n (mark LayoutClose at); frames = fs } in p) (ap reverse f ∙ reverse_truncate frames n l)
 
 -- behind the blocks above, no block is the innermost
 pub none_above : (fs : List Frame) → prefix_len is_block (drop (prefix_len is_block fs) fs) ≡ 0

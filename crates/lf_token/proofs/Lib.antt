@@ -1,3 +1,4 @@
+pub mod Bounds
 pub mod Comments
 pub mod Covers
 pub mod Digits
@@ -7,7 +8,6 @@ pub mod Logic
 pub mod Names
 pub mod Numerals
 pub mod Prefixes
-pub mod Roles
 pub mod Rooms
 pub mod Spellings
 pub mod Pieces

@@ -1,5 +1,5 @@
 use Rattle.std.proofs.Common.{◌≡◌, ℕ, ◌+◌, ◌-◌, ◌^◌, ◌≤◌, ◌<◌, List, [], ◌∷◌, length, get_or, take, drop, Bool, true, false, cond, not, refl, sym, ap, ◌∙◌, arith, subst, zero, suc, Option, Some, None}
-use Rattle.std.specs.Prelude.{nat_lt, nat_eq, codes, unwrap_or, option_map}
+use Rattle.std.specs.Prelude.{is_some, nat_lt, nat_eq, codes, unwrap_or, option_map}
 use Rattle.std.specs.List.{prefix_len, starts_with}
 use Rattle.std.proofs.lemmas.Slice.Eq.{bytes_eq-Decides}
 use Rattle.lf_text.specs.Place.{is_line_feed}
@@ -9,14 +9,15 @@ use Rattle.std.specs.Str.Parse.{digits_value}
 use Rattle.std.proofs.lemmas.List.{length-drop}
 use Rattle.lf_text.specs.declared.token.TokenKind.{TokenKind}
 use Rattle.lf_text.specs.declared.token.TokenKind.TheVariants as kind
-use Rattle.lf_text.specs.Words.{is_among, reserved_words, symbols}
-use Rattle.lf_text.specs.Lexemes.{is_digit, starts_part, is_name, is_numeral, is_bad_numeral, is_white, through, comment_at, piece_at, kind_of, token_at}
+use Rattle.lf_tables.specs.Rows.{value_of}
+use Rattle.lf_text.specs.Words.{symbols}
+use Rattle.lf_text.specs.Lexemes.{name_kind, is_digit, starts_part, is_name, is_numeral, is_bad_numeral, is_white, through, comment_at, piece_at, kind_of, token_at}
 use Rattle.lf_token.specs.declared.shape.Shape.TheVariants.{Name, Numeral}
 use Rattle.lf_token.specs.Scan.{tail_len, part_len, kind_by}
 use Rattle.lf_token.proofs.Logic.{and_left, and_right, false_from, if_true, if_false, token_is, bad_is, prefix_within}
 use Rattle.lf_token.proofs.Names.{name_front, name_longer, no_name, tail_within}
 use Rattle.lf_token.proofs.Numerals.{digit_starts, no_numeral, no_bad_numeral, numeral_front, numeral_longer, bad_front, bad_longer, part_within}
-use Rattle.lf_token.proofs.Spellings.{symbol_starts}
+use Rattle.lf_token.proofs.Spellings.{is_symbol, symbol_starts}
 
 -- The kind of a front, test by test.
 
@@ -27,19 +28,19 @@ abbrev behind_symbols : List ℕ → Option TokenKind
 behind_symbols f = cond (is_numeral f) (Some (numeral_kind f)) (cond (is_bad_numeral f) (Some kind.BadNum) None)
 
 abbrev behind_names : List ℕ → Option TokenKind
-behind_names f = cond (is_among symbols (encode_utf8_all f)) (Some kind.Symbol) (behind_symbols f)
+behind_names f = cond (is_symbol f) (value_of (encode_utf8_all f) symbols) (behind_symbols f)
 
-name_kind : (f : List ℕ) → is_name f ≡ true → kind_of f ≡ kind_by Name f
-name_kind f e = if_true (is_name f) (kind_by Name f) (behind_names f) e
+is_name_kind : (f : List ℕ) → is_name f ≡ true → kind_of f ≡ kind_by Name f
+is_name_kind f e = if_true (is_name f) (kind_by Name f) (behind_names f) e
 
 not_name_kind : (f : List ℕ) → is_name f ≡ false → kind_of f ≡ behind_names f
 not_name_kind f e = if_false (is_name f) (kind_by Name f) (behind_names f) e
 
-symbol_kind : (f : List ℕ) → is_among symbols (encode_utf8_all f) ≡ true → behind_names f ≡ Some kind.Symbol
-symbol_kind f e = if_true (is_among symbols (encode_utf8_all f)) (Some kind.Symbol) (behind_symbols f) e
+symbol_kind : (f : List ℕ) (k : TokenKind) → value_of (encode_utf8_all f) symbols ≡ Some k → behind_names f ≡ Some k
+symbol_kind f k e = if_true (is_symbol f) (value_of (encode_utf8_all f) symbols) (behind_symbols f) (ap is_some e) ∙ e
 
-not_symbol_kind : (f : List ℕ) → is_among symbols (encode_utf8_all f) ≡ false → behind_names f ≡ behind_symbols f
-not_symbol_kind f e = if_false (is_among symbols (encode_utf8_all f)) (Some kind.Symbol) (behind_symbols f) e
+not_symbol_kind : (f : List ℕ) → is_symbol f ≡ false → behind_names f ≡ behind_symbols f
+not_symbol_kind f e = if_false (is_symbol f) (value_of (encode_utf8_all f) symbols) (behind_symbols f) e
 
 number_kind : (f : List ℕ) → is_numeral f ≡ true → behind_symbols f ≡ kind_by Numeral f
 number_kind f e = if_true (is_numeral f) (Some (numeral_kind f)) (cond (is_bad_numeral f) (Some kind.BadNum) None) e
@@ -55,14 +56,14 @@ not_true true e = cc
 not_true false e = refl
 
 -- a front that starts as a name or a numeral does is no symbol
-start_no_symbol : (c : ℕ) (f : List ℕ) → starts_part c ≡ true → is_among symbols (encode_utf8_all (c ∷ f)) ≡ false
+start_no_symbol : (c : ℕ) (f : List ℕ) → starts_part c ≡ true → is_symbol (c ∷ f) ≡ false
 start_no_symbol c f e =
-    false_from (is_among symbols (encode_utf8_all (c ∷ f))) (λ s.
+    false_from (is_symbol (c ∷ f)) (λ s.
     sym (not_true (starts_part c) (and_left (not (starts_part c)) (not (is_digit c)) (symbol_starts c f s))) ∙ e)
 
-digit_no_symbol : (c : ℕ) (f : List ℕ) → is_digit c ≡ true → is_among symbols (encode_utf8_all (c ∷ f)) ≡ false
+digit_no_symbol : (c : ℕ) (f : List ℕ) → is_digit c ≡ true → is_symbol (c ∷ f) ≡ false
 digit_no_symbol c f e =
-    false_from (is_among symbols (encode_utf8_all (c ∷ f))) (λ s.
+    false_from (is_symbol (c ∷ f)) (λ s.
     sym (not_true (is_digit c) (and_right (not (starts_part c)) (not (is_digit c)) (symbol_starts c f s))) ∙ e)
 
 start_no_digit : (c : ℕ) → starts_part c ≡ true → is_digit c ≡ false
@@ -80,8 +81,8 @@ pub name_token : (c : ℕ) (cs : List ℕ) → starts_part c ≡ true →
 name_token c cs e =
     let w : tail_len cs ≤ length cs = tail_within cs in
     token_is (c ∷ cs) (tail_len cs + 1)
-    (cond (is_among reserved_words (encode_utf8_all (take (tail_len cs + 1) (c ∷ cs)))) kind.Word kind.Ident) (omega arith) (omega arith)
-    (name_kind (take (tail_len cs + 1) (c ∷ cs)) (name_front c cs e)) (λ m l v. name_none c cs m e l v)
+    (name_kind (take (tail_len cs + 1) (c ∷ cs))) (omega arith) (omega arith)
+    (is_name_kind (take (tail_len cs + 1) (c ∷ cs)) (name_front c cs e)) (λ m l v. name_none c cs m e l v)
 
 digit_behind : (c : ℕ) (cs : List ℕ) (m : ℕ) → is_digit c ≡ true → 0 < m → kind_of (take m (c ∷ cs)) ≡ behind_symbols (take m (c ∷ cs))
 digit_behind c cs zero e l = absurd (omega arith)
@@ -131,22 +132,22 @@ other_behind c cs zero e l = absurd (omega arith)
 other_behind c cs (suc m) e l = not_name_kind (c ∷ take m cs) (no_name c (take m cs) e)
 
 other_none : (c : ℕ) (cs : List ℕ) (m : ℕ) → starts_part c ≡ false → is_digit c ≡ false → 0 < m →
-    is_among symbols (encode_utf8_all (take m (c ∷ cs))) ≡ false → kind_of (take m (c ∷ cs)) ≡ None
+    is_symbol (take m (c ∷ cs)) ≡ false → kind_of (take m (c ∷ cs)) ≡ None
 other_none c cs zero e d l s = absurd (omega arith)
 other_none c cs (suc m) e d l s =
     other_behind c cs (suc m) e l ∙ not_symbol_kind (c ∷ take m cs) s ∙ no_kind (c ∷ take m cs) (no_numeral c (take m cs) d) (no_bad_numeral c (take m cs) d)
 
 -- elsewhere it is the longest symbol
-pub symbol_token : (c : ℕ) (cs : List ℕ) (n : ℕ) → starts_part c ≡ false → is_digit c ≡ false → 0 < n → n ≤ suc (length cs) →
-    is_among symbols (encode_utf8_all (take n (c ∷ cs))) ≡ true →
-    ((m : ℕ) → n < m → m ≤ suc (length cs) → is_among symbols (encode_utf8_all (take m (c ∷ cs))) ≡ false) → token_at (c ∷ cs) ≡ (Some kind.Symbol, n)
-symbol_token c cs n e d some w is longer =
-    token_is (c ∷ cs) n kind.Symbol some w (other_behind c cs n e some ∙ symbol_kind (take n (c ∷ cs)) is)
+pub symbol_token : (c : ℕ) (cs : List ℕ) (n : ℕ) (k : TokenKind) → starts_part c ≡ false → is_digit c ≡ false → 0 < n → n ≤ suc (length cs) →
+    value_of (encode_utf8_all (take n (c ∷ cs))) symbols ≡ Some k →
+    ((m : ℕ) → n < m → m ≤ suc (length cs) → is_symbol (take m (c ∷ cs)) ≡ false) → token_at (c ∷ cs) ≡ (Some k, n)
+symbol_token c cs n k e d some w is longer =
+    token_is (c ∷ cs) n k some w (other_behind c cs n e some ∙ symbol_kind (take n (c ∷ cs)) k is)
     (λ m l v. other_none c cs m e d (omega arith) (longer m l v))
 
 -- or, where none stands there, a bad character
 pub bad_char_token : (c : ℕ) (cs : List ℕ) → starts_part c ≡ false → is_digit c ≡ false →
-    ((m : ℕ) → 0 < m → m ≤ suc (length cs) → is_among symbols (encode_utf8_all (take m (c ∷ cs))) ≡ false) → token_at (c ∷ cs) ≡ (Some kind.BadChar, 1)
+    ((m : ℕ) → 0 < m → m ≤ suc (length cs) → is_symbol (take m (c ∷ cs)) ≡ false) → token_at (c ∷ cs) ≡ (Some kind.BadChar, 1)
 unfolding encode_utf8
 bad_char_token c cs e d longer = bad_is (c ∷ cs) (λ m l w. other_none c cs m e d l (longer m l w)) nothing
   where
@@ -170,14 +171,14 @@ pub bad_at : (cs : List ℕ) → 0 < length cs → is_digit (get_or cs 0 0) ≡ 
 bad_at [] l e p = absurd (omega arith)
 bad_at (c ∷ cs) l e p = bad_token c cs e p
 
-pub symbol_at : (cs : List ℕ) (n : ℕ) → 0 < length cs → starts_part (get_or cs 0 0) ≡ false → is_digit (get_or cs 0 0) ≡ false → 0 < n → n ≤ length cs →
-    is_among symbols (encode_utf8_all (take n cs)) ≡ true →
-    ((m : ℕ) → n < m → m ≤ length cs → is_among symbols (encode_utf8_all (take m cs)) ≡ false) → token_at cs ≡ (Some kind.Symbol, n)
-symbol_at [] n l e d some w is longer = absurd (omega arith)
-symbol_at (c ∷ cs) n l e d some w is longer = symbol_token c cs n e d some w is longer
+pub symbol_at : (cs : List ℕ) (n : ℕ) (k : TokenKind) → 0 < length cs → starts_part (get_or cs 0 0) ≡ false → is_digit (get_or cs 0 0) ≡ false → 0 < n → n ≤ length cs →
+    value_of (encode_utf8_all (take n cs)) symbols ≡ Some k →
+    ((m : ℕ) → n < m → m ≤ length cs → is_symbol (take m cs) ≡ false) → token_at cs ≡ (Some k, n)
+symbol_at [] n k l e d some w is longer = absurd (omega arith)
+symbol_at (c ∷ cs) n k l e d some w is longer = symbol_token c cs n k e d some w is longer
 
 pub bad_char_at : (cs : List ℕ) → 0 < length cs → starts_part (get_or cs 0 0) ≡ false → is_digit (get_or cs 0 0) ≡ false →
-    ((m : ℕ) → 0 < m → m ≤ length cs → is_among symbols (encode_utf8_all (take m cs)) ≡ false) → token_at cs ≡ (Some kind.BadChar, 1)
+    ((m : ℕ) → 0 < m → m ≤ length cs → is_symbol (take m cs) ≡ false) → token_at cs ≡ (Some kind.BadChar, 1)
 bad_char_at [] l e d longer = absurd (omega arith)
 bad_char_at (c ∷ cs) l e d longer = bad_char_token c cs e d longer
 

@@ -1,28 +1,130 @@
-use Rattle.std.proofs.Common.{◌≡◌, ℕ, ◌+◌, ◌≤◌, ◌<◌, List, [], ◌∷◌, ◌++◌, length, take, drop, map, get_or, Bool, true, false, cond, ◌||◌, refl, sym, ap, ◌∙◌, arith, subst, zero, suc, max, ⊎_elim, append_assoc, Some, Option}
-use Rattle.std.specs.Prelude.{bytes_eq, nat_eq, is_some}
-use Rattle.std.specs.List.{starts_with}
+use Rattle.std.proofs.Common.{◌≡◌, ℕ, ◌+◌, ◌≤◌, ◌<◌, List, [], ◌∷◌, ◌++◌, length, take, drop, map, get_or, Bool, true, false, cond, ◌||◌, refl, sym, ap, ◌∙◌, arith, subst, zero, suc, max, ⊎_elim, append_assoc, Some, None, Option}
+use Rattle.std.specs.Prelude.{bytes_eq, nat_eq, nat_lt, is_some}
+use Rattle.std.specs.List.{starts_with, list_any}
 use Rattle.std.specs.Str.{encode_utf8_all}
 use Rattle.std.specs.Char.{encode_utf8, len_utf8}
 use Rattle.std.proofs.lemmas.Slice.Eq.{bytes_eq-Decides}
 use Rattle.std.proofs.lemmas.Str.{encodes_same, cons_from_encodes, encodes-append, length-encode, len_utf8_bounds}
 use Rattle.std.proofs.lemmas.List.{take-append-drop, length-append, length-take-le}
 use Rattle.std.proofs.Math.Seq.{take-append_seam}
-use Rattle.std.proofs.lemmas.Bool.{cases_lt}
-use Rattle.lf_tables.specs.Rows.{Row, value_of, longest_of, reach}
-use Rattle.lf_text.specs.Words.{is_among, symbols}
-use Rattle.lf_token.specs.Spelling.{width, longest_among}
+use Rattle.std.proofs.lemmas.Bool.{cases_lt, ltb-true}
+use Rattle.std.proofs.lemmas.Bool.Decides.{nat_tests}
+use Rattle.lf_tables.specs.Rows.{Row, value_of, reached, longer, longest_of}
+use Rattle.lf_token.specs.Spelling.{width}
 use Rattle.lf_token.proofs.Logic.{or_left, or_right, or_false, false_from, if_true}
-use Rattle.lf_token.proofs.Spellings.{symbol_texts}
 
 -- Tables
+
+-- the bytes are one of these texts
+abbrev pub is_among : List (List ℕ) → List ℕ → Bool
+is_among texts bytes = list_any (λ text. bytes_eq text bytes) texts
 
 abbrev pub keys : {V : Type 0} → List (Row V) → List (List ℕ)
 keys [] = []
 keys (r ∷ rows) = r.0 ∷ keys rows
 
-pub longest_of-keys : {V : Type 0} (rows : List (Row V)) (bytes : List ℕ) → longest_of rows bytes ≡ longest_among (keys rows) bytes
+-- the length of the key where the text begins with it, else 0
+abbrev pub reach : List ℕ → List ℕ → ℕ
+reach key text = cond (starts_with nat_eq text key) (length key) 0
+
+-- the greatest length of one of the texts that the bytes begin with, or 0
+abbrev pub longest_among : List (List ℕ) → List ℕ → ℕ
+longest_among [] bytes = 0
+longest_among (text ∷ texts) bytes = max (reach text bytes) (longest_among texts bytes)
+
+abbrev pub length_of : {V : Type 0} → Option (ℕ × V) → ℕ
+length_of None = 0
+length_of (Some p) = p.0
+
+longer_length : {V : Type 0} (a b : Option (ℕ × V)) → length_of (longer a b) ≡ max (length_of a) (length_of b)
+longer_length None b = let e : length_of b ≡ max 0 (length_of b) = omega arith in e
+longer_length (Some p) None = let e : p.0 ≡ max p.0 0 = omega arith in e
+longer_length (Some p) (Some q) = step (nat_lt p.0 q.0) refl
+  where
+    step : (b : Bool) → nat_lt p.0 q.0 ≡ b → length_of (cond b (Some q) (Some p)) ≡ max p.0 q.0
+    step true e = let l : p.0 < q.0 = ltb-true p.0 q.0 e in omega arith
+    step false e = let l : q.0 ≤ p.0 = grind (arith, nat_tests) in omega arith
+
+reached_length : {V : Type 0} (r : Row V) (bytes : List ℕ) → length_of (reached r bytes) ≡ reach r.0 bytes
+reached_length {V} r bytes = step (starts_with nat_eq bytes r.0)
+  where
+    step : (b : Bool) → length_of {V = V} (cond b (Some (length r.0, r.1)) None) ≡ cond b (length r.0) 0
+    step true = refl
+    step false = refl
+
+pub longest_of-keys : {V : Type 0} (rows : List (Row V)) (bytes : List ℕ) → length_of (longest_of rows bytes) ≡ longest_among (keys rows) bytes
 longest_of-keys [] bytes = refl
-longest_of-keys (r ∷ rows) bytes = ap (λ (n : ℕ). max (reach r.0 bytes) n) (longest_of-keys rows bytes)
+longest_of-keys (r ∷ rows) bytes =
+    longer_length (reached r bytes) (longest_of rows bytes)
+    ∙ ap (λ (n : ℕ). max n (length_of (longest_of rows bytes))) (reached_length r bytes)
+    ∙ ap (λ (n : ℕ). max (reach r.0 bytes) n) (longest_of-keys rows bytes)
+
+take_front : (n : ℕ) (xs : List ℕ) → take (length (take n xs)) xs ≡ take n xs
+take_front zero xs = refl
+take_front (suc n) [] = refl
+take_front (suc n) (x ∷ xs) = ap (λ ys. x ∷ ys) (take_front n xs)
+
+-- a key that the text doesn't begin with is no front of it
+no_front : (key bytes : List ℕ) (n : ℕ) → starts_with nat_eq bytes key ≡ false → bytes_eq key (take n bytes) ≡ false
+no_front key bytes n e =
+    false_from (bytes_eq key (take n bytes)) (λ f.
+    let same : key ≡ take n bytes = (bytes_eq-Decides key (take n bytes)).0 f in
+    let front : take (length key) bytes ≡ key = ap (λ (k : List ℕ). take (length k) bytes) same ∙ take_front n bytes ∙ sym same in
+    sym e ∙ (bytes_eq-Decides key (take (length key) bytes)).1 (sym front))
+
+starts_within : (key bytes : List ℕ) → starts_with nat_eq bytes key ≡ true → length key ≤ length bytes
+starts_within key bytes e =
+    let same : key ≡ take (length key) bytes = (bytes_eq-Decides key (take (length key) bytes)).0 e in
+    let l : length (take (length key) bytes) ≤ length bytes = take-length-le (length key) bytes in
+    let k : length key ≡ length (take (length key) bytes) = ap length same in omega arith
+  where
+    take-length-le : (n : ℕ) (xs : List ℕ) → length (take n xs) ≤ length xs
+    take-length-le zero xs = omega arith
+    take-length-le (suc n) [] = omega arith
+    take-length-le (suc n) (x ∷ xs) = let l : length (take n xs) ≤ length xs = take-length-le n xs in omega arith
+
+-- What the longest key that stands at the front is: where it is, and that it has the value of the front.
+record Front {V : Type 0} (rows : List (Row V)) (bytes : List ℕ) (p : ℕ × V) : Type 0 where
+  within : p.0 ≤ length bytes
+  value : value_of (take p.0 bytes) rows ≡ Some p.1
+
+here : {V : Type 0} (r : Row V) (rows : List (Row V)) (bytes : List ℕ) → starts_with nat_eq bytes r.0 ≡ true → Front (r ∷ rows) bytes (length r.0, r.1)
+here r rows bytes e = record {
+  within = starts_within r.0 bytes e;
+  value = ap (λ b. cond b (Some r.1) (value_of (take (length r.0) bytes) rows)) e;
+}
+
+later : {V : Type 0} (r : Row V) (rows : List (Row V)) (bytes : List ℕ) (p : ℕ × V) → bytes_eq r.0 (take p.0 bytes) ≡ false → Front rows bytes p → Front (r ∷ rows) bytes p
+later r rows bytes p e f = record { within = f.within; value = ap (λ b. cond b (Some r.1) (value_of (take p.0 bytes) rows)) e ∙ f.value }
+
+longer_key : {V : Type 0} (r : Row V) (bytes : List ℕ) (p : ℕ × V) → p.0 ≤ length bytes → length r.0 < p.0 → bytes_eq r.0 (take p.0 bytes) ≡ false
+longer_key r bytes p w l =
+    false_from (bytes_eq r.0 (take p.0 bytes)) (λ f.
+    let same : r.0 ≡ take p.0 bytes = (bytes_eq-Decides r.0 (take p.0 bytes)).0 f in
+    let n : length r.0 ≡ p.0 = ap length same ∙ length-take-le p.0 bytes w in absurd (omega arith))
+
+abbrev IsFront : {V : Type 0} → List (Row V) → List ℕ → Option (ℕ × V) → Type 0
+IsFront rows bytes None = Unit {0}
+IsFront rows bytes (Some p) = Front rows bytes p
+
+front_step : {V : Type 0} (r : Row V) (rows : List (Row V)) (bytes : List ℕ) (b : Bool) (o : Option (ℕ × V)) → starts_with nat_eq bytes r.0 ≡ b → IsFront rows bytes o →
+    IsFront (r ∷ rows) bytes (longer (cond b (Some (length r.0, r.1)) None) o)
+front_step r rows bytes false None e f = tt
+front_step r rows bytes false (Some p) e f = later r rows bytes p (no_front r.0 bytes p.0 e) f
+front_step r rows bytes true None e f = here r rows bytes e
+front_step r rows bytes true (Some p) e f = step (nat_lt (length r.0) p.0) refl
+  where
+    step : (c : Bool) → nat_lt (length r.0) p.0 ≡ c → IsFront (r ∷ rows) bytes (cond c (Some p) (Some (length r.0, r.1)))
+    step true l = later r rows bytes p (longer_key r bytes p f.within (ltb-true (length r.0) p.0 l)) f
+    step false l = here r rows bytes e
+
+is_front : {V : Type 0} (rows : List (Row V)) (bytes : List ℕ) → IsFront rows bytes (longest_of rows bytes)
+is_front [] bytes = tt
+is_front (r ∷ rows) bytes = front_step r rows bytes (starts_with nat_eq bytes r.0) (longest_of rows bytes) refl (is_front rows bytes)
+
+-- the longest key that stands at the front has the value that is found
+pub longest_value : {V : Type 0} (rows : List (Row V)) (bytes : List ℕ) (n : ℕ) (v : V) → longest_of rows bytes ≡ Some (n, v) → value_of (take n bytes) rows ≡ Some v
+longest_value rows bytes n v e = let f : Front rows bytes (n, v) = subst (λ o. IsFront rows bytes o) e (is_front rows bytes) in f.value
 
 found_step : {V : Type 0} (b : Bool) (v : V) (o : Option V) (rest : Bool) → is_some o ≡ rest → is_some (cond b (Some v) o) ≡ b || rest
 found_step true v o rest e = refl
@@ -205,9 +307,11 @@ chars_exact cs n bytes w before stop k v e =
     (cases_lt k n))
     (cases_lt n k)
 
--- the bytes of the longest symbol are those of so many characters
-pub symbol_width : (cs rest : List ℕ) (bytes : ℕ) → rest ≡ encode_utf8_all cs → bytes ≡ longest_among symbols rest → bytes ≡ width (take (longest_in symbol_texts cs) cs)
-symbol_width cs rest bytes e b = b ∙ ap (longest_among symbols) e ∙ longest_width symbol_texts cs
+-- the bytes of some characters at the front
+pub take_width : (n : ℕ) (cs : List ℕ) → take (width (take n cs)) (encode_utf8_all cs) ≡ encode_utf8_all (take n cs)
+take_width n cs =
+    ap (take (width (take n cs))) (ap encode_utf8_all (sym (take-append-drop n cs)) ∙ encodes-append (take n cs) (drop n cs))
+    ∙ take-append_seam (encode_utf8_all (take n cs)) (encode_utf8_all (drop n cs))
 
 pub width_within : (cs : List ℕ) (n : ℕ) → n ≤ length cs → width (take n cs) ≤ width cs
 width_within cs n l =

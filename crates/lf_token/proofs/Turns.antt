@@ -3,7 +3,7 @@ use Rattle.std.specs.Str.{encode_utf8_all, all_scalars, chars, IsUtf8}
 use Rattle.std.proofs.lemmas.List.{length-drop, drop-drop}
 use Rattle.std.proofs.lemmas.Str.{encodes-chars, scalars-chars}
 use Rattle.lf_text.specs.declared.token.Token.{Token}
-use Rattle.lf_text.specs.declared.token.TokenKind.TheVariants.{Close}
+use Rattle.lf_text.specs.declared.word.Word.TheVariants.{LayoutClose}
 use Rattle.lf_text.specs.declared.frame.Frame.{Frame}
 use Rattle.lf_text.specs.Place.{line_of, column_of}
 use Rattle.lf_text.specs.Layout.{mark, laid_out}
@@ -70,11 +70,11 @@ next_tokens items rest at end done len r some w p e =
 pub first_place : IsAt [] (record { at = 0; line = 1; column = 0 })
 first_place = record { at = refl; line = refl; column = refl }
 
-pub first_tokens : (bytes items : List ℕ) (tokens : List Token) (previous : Token) (frames : List Frame) → items ≡ chars bytes → tokens ≡ [] → frames ≡ [] → previous ≡ mark Close 0 →
+pub first_tokens : (bytes items : List ℕ) (tokens : List Token) (previous : Token) (frames : List Frame) → items ≡ chars bytes → tokens ≡ [] → frames ≡ [] → previous ≡ mark LayoutClose 0 →
     tokens ++ laid_out bytes previous frames (lexemes_from 0 0 items) ≡ tokens_of bytes
 unfolding tokens_of lexemes_of
 first_tokens bytes items tokens previous frames i t f p =
     ap (λ ts. ts ++ laid_out bytes previous frames (lexemes_from 0 0 items)) t
     ∙ ap (λ q. laid_out bytes q frames (lexemes_from 0 0 items)) p
-    ∙ ap (λ fs. laid_out bytes (mark Close 0) fs (lexemes_from 0 0 items)) f
-    ∙ ap (λ (cs : List ℕ). laid_out bytes (mark Close 0) [] (lexemes_from 0 0 cs)) i
+    ∙ ap (λ fs. laid_out bytes (mark LayoutClose 0) fs (lexemes_from 0 0 items)) f
+    ∙ ap (λ (cs : List ℕ). laid_out bytes (mark LayoutClose 0) [] (lexemes_from 0 0 cs)) i

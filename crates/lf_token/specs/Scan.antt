@@ -1,11 +1,9 @@
 use Rattle.std.specs.Prelude.{ℕ, ◌+◌, ◌^◌, List, [], ◌∷◌, Bool, false, ◌||◌, ◌&&◌, ◌==◌, nat_lt, if◌then◌else◌, Option, None, Some}
 use Rattle.std.specs.List.{prefix_len}
-use Rattle.std.specs.Str.{encode_utf8_all}
 use Rattle.std.specs.Str.Parse.{digits_value}
 use Rattle.lf_text.specs.declared.token.TokenKind.{TokenKind}
 use Rattle.lf_text.specs.declared.token.TokenKind.TheVariants as kind
-use Rattle.lf_text.specs.Words.{is_among, reserved_words}
-use Rattle.lf_text.specs.Lexemes.{starts_part, continues_part}
+use Rattle.lf_text.specs.Lexemes.{starts_part, continues_part, name_kind}
 use Rattle.lf_token.specs.declared.shape.Shape.{Shape}
 use Rattle.lf_token.specs.declared.shape.Shape.TheVariants.{White, OpenComment, Name, Numeral, BadNum, Symbol, BadChar}
 
@@ -32,8 +30,8 @@ part_len (c ∷ cs) = if starts_part c then prefix_len continues_part cs + 1 els
 abbrev pub kind_by : Shape → List ℕ → Option TokenKind
 kind_by White front = None
 kind_by OpenComment front = Some kind.OpenComment
-kind_by Name front = Some (if is_among reserved_words (encode_utf8_all front) then kind.Word else kind.Ident)
+kind_by Name front = Some (name_kind front)
 kind_by Numeral front = Some (if nat_lt (digits_value 10 front) (2 ^ 128) then kind.Num (digits_value 10 front) else kind.WideNum)
 kind_by BadNum front = Some kind.BadNum
-kind_by Symbol front = Some kind.Symbol
+kind_by (Symbol kind) front = Some kind
 kind_by BadChar front = Some kind.BadChar

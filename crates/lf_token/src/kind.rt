@@ -1,15 +1,16 @@
-ghost use Rattle.std.specs.Prelude.{◌≡◌, ℕ, ◌+◌, ◌*◌, ◌-◌, ◌^◌, ◌≤◌, ◌<◌, Some, None, nat_lt, if◌then◌else◌, IsTrue};
-ghost use Rattle.std.specs.List.{list_all};
+ghost use Rattle.std.specs.Prelude.{◌≡◌, ℕ, ◌+◌, ◌*◌, ◌-◌, ◌^◌, ◌≤◌, ◌<◌, Some, None, nat_lt, if◌then◌else◌, IsTrue, ◌==◌};
+ghost use Rattle.std.specs.List.{list_all, list_any};
 ghost use Rattle.std.specs.Option.{SomeIff};
 ghost use Rattle.std.specs.Str.{encode_utf8_all};
 ghost use Rattle.std.specs.Str.Parse.{digits_value};
 ghost use Rattle.std.specs.Char.{digit_value};
 ghost use Rattle.lf_text.specs.Lexemes.{is_digit};
+ghost use Rattle.lf_text.specs.Lexemes.{name_kind};
 ghost use Rattle.lf_token.specs.Scan.{kind_by};
 
 use crate::shape::Shape;
-use crate::words::is_reserved_word;
-use lf_text::TokenKind;
+use crate::words::named;
+use lf_text::{Spelling, TokenKind};
 
 fn digit_of(c: char) -> u128
     requires { IsTrue (is_digit c) }
@@ -44,6 +45,30 @@ fn number(cs: &[char]) -> Option<u128>
     Some(value)
 }
 
+/// Whether a dot is among the characters.
+fn has_dot(cs: &[char]) -> bool
+    ensures { result ≡ list_any (λ c. c == 46) cs.now }
+{
+    'characters: for c in cs {
+        if *c == '.' {
+            return true;
+        }
+    }
+    false
+}
+
+/// The kind of the name of these characters.
+fn name_kind(cs: &[char], text: &str) -> TokenKind
+    requires spelled { text.now ≡ encode_utf8_all cs.now }
+    ensures { result ≡ name_kind cs.now }
+{
+    match named(text) {
+        Some(kind) => kind,
+        None if has_dot(cs) => TokenKind::Ident(Spelling::Several),
+        None => TokenKind::Ident(Spelling::Plain),
+    }
+}
+
 /// The kind of the token of these characters, none where they are white space.
 pub fn kind_by(shape: Shape, cs: &[char], text: &str) -> Option<TokenKind>
     requires spelled { text.now ≡ encode_utf8_all cs.now }
@@ -53,14 +78,13 @@ pub fn kind_by(shape: Shape, cs: &[char], text: &str) -> Option<TokenKind>
     Some(match shape {
         Shape::White => return None,
         Shape::OpenComment => TokenKind::OpenComment,
-        Shape::Name if is_reserved_word(text) => TokenKind::Word,
-        Shape::Name => TokenKind::Ident,
+        Shape::Name => name_kind(cs, text),
         Shape::Numeral => match number(cs) {
             Some(value) => TokenKind::Num(value),
             None => TokenKind::WideNum,
         },
         Shape::BadNum => TokenKind::BadNum,
-        Shape::Symbol => TokenKind::Symbol,
+        Shape::Symbol(kind) => kind,
         Shape::BadChar => TokenKind::BadChar,
     })
 }

@@ -1,15 +1,13 @@
 ghost use Rattle.std.specs.Prelude.{List, ℕ, ◌≡◌, ◌+◌, ◌^◌, ◌≤◌, ◌<◌, length, OnOk, IfOk, [], ◌++◌};
 ghost use Rattle.std.specs.Str.{IsCharBoundary};
 ghost use Rattle.lf_text.specs.Place.{line_of, column_of};
-ghost use Rattle.lf_text.specs.Layout.{mark, laid_out};
-ghost use Rattle.lf_token.specs.Rules.{opens_by};
+ghost use Rattle.lf_text.specs.Layout.{mark, laid_out, opens_block};
 ghost use Rattle.lf_token.specs.Layouts.{Knows, Puts};
 
 use crate::place::Place;
-use crate::role::{Role, role_of};
 use crate::stack::Stack;
-use lf_core::NoMemory;
-use lf_text::{Token, TokenKind};
+use lf_base::NoMemory;
+use lf_text::{Role, Token, TokenKind, Word};
 use std::alloc::Global;
 
 /// The tokens so far, and what the layout rules know of the last one.
@@ -23,11 +21,11 @@ pub struct Layout {
 
 /// Whether a block opens between two tokens of these roles.
 fn opens_block(previous: Role, role: Role) -> bool
-    ensures { result ≡ opens_by previous role }
+    ensures { result ≡ opens_block previous role }
 {
     match previous {
         Role::BlockOpener => true,
-        Role::Where => role != Role::Bar,
+        Role::Where => !matches!(role, Role::Bar),
         _ => false,
     }
 }
@@ -37,18 +35,18 @@ impl Layout {
     pub fn new(alloc: Global) -> Layout
         ensures knows { (bytes : List ℕ) → Knows bytes result }
         ensures stack { (result.stack.tokens ≡ []) × (result.stack.frames ≡ []) }
-        ensures previous { result.previous ≡ mark TokenKind.Close 0 }
+        ensures previous { result.previous ≡ mark Word.LayoutClose 0 }
     {
         let previous = Token {
             at: 0,
             len: 0,
-            kind: TokenKind::Close,
+            kind: TokenKind::Word(Word::LayoutClose),
         };
         Layout {
             stack: Stack::new(alloc),
             previous,
             line: 1,
-            role: role_of(""),
+            role: Role::BlockClose,
         }
     }
 
@@ -64,7 +62,7 @@ impl Layout {
         ensures knows { OnOk result (Knows text.now self.new) }
         ensures puts { OnOk result (Puts text.now self.old token self.new) }
     {
-        let role = role_of(&text[token.at..token.at + token.len]);
+        let role = token.kind.role();
         let opens = opens_block(self.role, role);
         let first = self.line < place.line;
         let end = self.previous.at + self.previous.len;

@@ -11,7 +11,7 @@ use crate::kind::kind_by;
 use crate::layout::Layout;
 use crate::place::{Place, past};
 use crate::shape::shape_at;
-use lf_core::NoMemory;
+use lf_base::NoMemory;
 use lf_text::{Text, Token, TokenKind};
 use std::alloc::Global;
 

@@ -6,7 +6,8 @@ ghost use Rattle.lf_token.specs.Scan.{kind_by};
 
 use crate::characters::{is_digit, is_white, starts_part};
 use crate::scan::{chars_in, comment_len, digits_len, line_len, part_len, tail_len};
-use crate::words::symbol_len;
+use crate::words::symbol_at;
+use lf_text::TokenKind;
 
 /// What the characters at a place are.
 #[derive(Clone, Copy, Debug, PartialEq, Eq)]
@@ -16,7 +17,7 @@ pub enum Shape {
     Name,
     Numeral,
     BadNum,
-    Symbol,
+    Symbol(TokenKind),
     BadChar,
 }
 
@@ -51,11 +52,9 @@ fn symbol_shape(text: &str, at: usize, cs: &[char]) -> (Shape, usize)
     ensures within { result.1 ≤ length cs.now }
     ensures some { 0 < result.1 }
 {
-    let bytes = symbol_len(text, at);
-    if bytes == 0 {
-        (Shape::BadChar, 1)
-    } else {
-        (Shape::Symbol, chars_in(cs, bytes))
+    match symbol_at(text, at) {
+        Some((bytes, kind)) => (Shape::Symbol(kind), chars_in(cs, bytes)),
+        None => (Shape::BadChar, 1),
     }
 }
 

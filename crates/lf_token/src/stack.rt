@@ -1,11 +1,10 @@
-ghost use Rattle.std.specs.Prelude.{◌≡◌, ◌+◌, ◌≤◌, drop, true, ◌++◌, [], length, OnOk, reverse, replicate, count_by};
+ghost use Rattle.std.specs.Prelude.{◌≡◌, ◌+◌, ◌≤◌, drop, true, ◌++◌, [], ◌∷◌, length, OnOk, reverse, replicate, count_by};
 ghost use Rattle.std.specs.List.{prefix_len};
 ghost use Rattle.lf_text.specs.Layout.{mark, is_block, is_deeper, is_block_at};
 
 use crate::place::Place;
-use crate::role::Role;
-use lf_core::NoMemory;
-use lf_text::{Frame, Token, TokenKind};
+use lf_base::NoMemory;
+use lf_text::{Frame, Role, Token, TokenKind, Word};
 use std::alloc::Global;
 use std::marker::Model;
 
@@ -29,18 +28,22 @@ impl Model for Stack {
 }
 
 /// A layout token at a place.
-fn mark(kind: TokenKind, at: usize) -> Token
-    ensures { result ≡ mark kind at }
+fn mark(word: Word, at: usize) -> Token
+    ensures { result ≡ mark word at }
 {
-    Token { at, len: 0, kind }
+    Token {
+        at,
+        len: 0,
+        kind: TokenKind::Word(word),
+    }
 }
 
 /// So many layout tokens that close blocks.
 fn push_closes(tokens: &mut Vec<Token>, at: usize, n: usize) -> Result<(), NoMemory>
-    ensures { OnOk result (tokens.new.items ≡ tokens.old.items ++ replicate n (mark TokenKind.Close at)) }
+    ensures { OnOk result (tokens.new.items ≡ tokens.old.items ++ replicate n (mark Word.LayoutClose at)) }
 {
     'closes: for _i in 0..n {
-        tokens.push(mark(TokenKind::Close, at))?;
+        tokens.push(mark(Word::LayoutClose, at))?;
     }
     Ok(())
 }
@@ -106,8 +109,7 @@ fn is_block_at(frames: &[Frame], column: usize) -> bool
 }
 
 impl Stack {
-    ghost use Rattle.lf_text.specs.Layout.{Put, nothing, blocks, blocks_above, has_bracket, close, open_block, part_items, new_line};
-    ghost use Rattle.lf_token.specs.Rules.{where_by, leave_bracket, closing_by, put_by, led_by, push_by};
+    ghost use Rattle.lf_text.specs.Layout.{Put, nothing, blocks_above, has_bracket, close, open_block, part_items, new_line, at_where, at_closing, put_inside, end_command, put_led, frames_after};
 
     /// No tokens, and nothing open.
     pub fn new(alloc: Global) -> Stack
@@ -142,7 +144,7 @@ impl Stack {
     fn open_block(&mut self, at: usize, column: usize) -> Result<(), NoMemory>
         ensures { OnOk result (self.new ≡ open_block at column self.old) }
     {
-        self.tokens.push(mark(TokenKind::Open, at))?;
+        self.tokens.push(mark(Word::LayoutOpen, at))?;
         self.frames.push(Frame::Block(column))?;
         Ok(())
     }
@@ -161,14 +163,14 @@ impl Stack {
         ensures { OnOk result (self.new ≡ part_items at column self.old) }
     {
         if is_block_at(&self.frames, column) {
-            self.tokens.push(mark(TokenKind::Sep, at))?;
+            self.tokens.push(mark(Word::LayoutSep, at))?;
         }
         Ok(())
     }
 
     /// All blocks above the innermost open bracket close at a `where`.
     fn at_where(&mut self, at: usize, role: Role) -> Result<(), NoMemory>
-        ensures { OnOk result (self.new ≡ where_by at role self.old) }
+        ensures { OnOk result (self.new ≡ at_where at role self.old) }
     {
         match role {
             Role::Where => self.close_above(at),
@@ -188,9 +190,9 @@ impl Stack {
 
     /// A closing bracket closes its bracket and the blocks above, if a bracket is open.
     fn at_closing(&mut self, at: usize, role: Role) -> Result<(), NoMemory>
-        ensures { OnOk result (self.new ≡ closing_by at role self.old) }
+        ensures { OnOk result (self.new ≡ at_closing at role self.old) }
     {
-        if role != Role::Closing || self.brackets == 0 {
+        if !matches!(role, Role::Closing) || self.brackets == 0 {
             return Ok(());
         }
         self.close_above(at)?;
@@ -207,7 +209,7 @@ impl Stack {
         opens: bool,
         first: bool,
     ) -> Result<(), NoMemory>
-        ensures { OnOk result (self.new ≡ put_by at column role opens first self.old) }
+        ensures { OnOk result (self.new ≡ put_inside at column role opens first self.old) }
     {
         if opens {
             self.open_block(at, column)?;
@@ -221,7 +223,7 @@ impl Stack {
 
     /// The end of a command closes all that is open.
     pub fn end_command(&mut self, at: usize) -> Result<(), NoMemory>
-        ensures { OnOk result (self.new ≡ record { tokens = self.old.tokens ++ replicate (blocks self.old.frames) (mark TokenKind.Close at); frames = [] }) }
+        ensures { OnOk result (self.new ≡ end_command at self.old) }
     {
         let n = blocks(&self.frames);
         push_closes(&mut self.tokens, at, n)?;
@@ -239,7 +241,7 @@ impl Stack {
         opens: bool,
         first: bool,
     ) -> Result<(), NoMemory>
-        ensures { OnOk result (self.new ≡ led_by place.at place.column end role opens first self.old) }
+        ensures { OnOk result (self.new ≡ put_led place.at place.column end role opens first self.old) }
     {
         match role {
             Role::Command => self.end_command(end),
@@ -249,10 +251,10 @@ impl Stack {
 
     /// A token of the text.
     pub fn push(&mut self, token: Token, role: Role) -> Result<(), NoMemory>
-        ensures { OnOk result (self.new ≡ push_by token role self.old) }
+        ensures { OnOk result (self.new ≡ record { tokens = self.old.tokens ++ token ∷ []; frames = frames_after role self.old.frames }) }
     {
         self.tokens.push(token)?;
-        if role == Role::Opening {
+        if matches!(role, Role::Opening) {
             self.frames.push(Frame::Bracket)?;
             self.brackets += 1;
         }

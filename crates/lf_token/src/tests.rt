@@ -1,8 +1,5 @@
-use crate::{
-    Operator, Side, Token, TokenKind, is_command_word, is_left_out_word, is_reserved_word,
-    operator_of, tokens,
-};
-use lf_core::NoMemory;
+use crate::{Token, TokenKind, Word, nesting_numbers, tokens};
+use lf_base::NoMemory;
 use lf_text::Text;
 use std::alloc::Global;
 use std::test::Fail;
@@ -15,27 +12,31 @@ fn read(alloc: Global, source: &str) -> Result<Vec<Token>, Fail> {
     }
 }
 
-/// Each token by a letter for its kind and its text; blocks as braces and semicolons.
+/// A letter for the kind; blocks as braces and semicolons.
+fn letter(kind: TokenKind) -> &'static str {
+    match kind {
+        TokenKind::Ident(_) => "i",
+        TokenKind::Word(Word::LayoutOpen) => "{",
+        TokenKind::Word(Word::LayoutSep) => ";",
+        TokenKind::Word(Word::LayoutClose) => "}",
+        TokenKind::Word(_) => "w",
+        TokenKind::Operator(_) => "o",
+        TokenKind::Num(_) => "n",
+        TokenKind::BadChar => "?c",
+        TokenKind::OpenComment => "?o",
+        TokenKind::BadNum => "?n",
+        TokenKind::WideNum => "?w",
+    }
+}
+
+/// Each token by its letter and its text.
 fn shown(alloc: Global, source: &str) -> Result<String, Fail> {
     let mut line = String::new(alloc);
     for token in &read(alloc, source)? {
-        let letter = match token.kind {
-            TokenKind::Ident => "i",
-            TokenKind::Word => "w",
-            TokenKind::Symbol => "s",
-            TokenKind::Num(_) => "n",
-            TokenKind::Open => "{",
-            TokenKind::Sep => ";",
-            TokenKind::Close => "}",
-            TokenKind::BadChar => "?c",
-            TokenKind::OpenComment => "?o",
-            TokenKind::BadNum => "?n",
-            TokenKind::WideNum => "?w",
-        };
         if !line.is_empty() {
             line.push(' ')?;
         }
-        line.push_str(letter)?;
+        line.push_str(letter(token.kind))?;
         let rest = source.get(token.at..).ok_or("no place")?;
         line.push_str(rest.get(..token.len).ok_or("no slice")?)?;
     }
@@ -46,21 +47,21 @@ fn shown(alloc: Global, source: &str) -> Result<String, Fail> {
 fn takes_the_longest_token(rt: HostRuntime) -> Result<(), Fail> {
     let rows = [
         ("", ""),
-        ("a-b", "ia s- ib"),
-        ("a->b", "ia s-> ib"),
-        ("a<-b", "ia s<- ib"),
-        ("a<->b", "ia s<-> ib"),
+        ("a-b", "ia o- ib"),
+        ("a->b", "ia o-> ib"),
+        ("a<-b", "ia w<- ib"),
+        ("a<->b", "ia o<-> ib"),
         ("a<b", "ia ?c< ib"),
-        ("←x", "s← ix"),
-        ("x:=y", "ix s:= iy"),
-        ("x: =y", "ix s: s= iy"),
-        ("f.{u}", "if s.{ iu s}"),
-        ("@f", "s@ if"),
-        ("f @[x", "if s@[ ix"),
-        ("a/\\b/c\\/d", "ia s/\\ ib s/ ic s\\/ id"),
-        ("#checkTrue", "s#check iTrue"),
+        ("←x", "w← ix"),
+        ("x:=y", "ix w:= iy"),
+        ("x: =y", "ix w: o= iy"),
+        ("f.{u}", "if w.{ iu w}"),
+        ("@f", "w@ if"),
+        ("f @[x", "if w@[ ix"),
+        ("a/\\b/c\\/d", "ia o/\\ ib o/ ic o\\/ id"),
+        ("#checkTrue", "w#check iTrue"),
         ("#foo", "?c# ifoo"),
-        ("<--x", "s<- s- ix"),
+        ("<--x", "w<- o- ix"),
         ("< --x", "?c<"),
         ("a -- b\nc", "ia ic"),
         ("a /- x /- y -/ z -/ b", "ia ib"),
@@ -85,7 +86,7 @@ fn reads_names_and_numerals(rt: HostRuntime) -> Result<(), Fail> {
         ("x._", "ix._"),
         ("_.x", "i_.x"),
         ("a'!?₀₉é", "ia'!?₀₉é"),
-        ("λx xλ", "sλ ix ix sλ"),
+        ("λx xλ", "wλ ix ix wλ"),
         ("Πx xΣ", "?cΠ ix ix ?cΣ"),
         ("fun fun.x x.fun fun'", "wfun ifun.x ix.fun ifun'"),
         ("12 12ab 12ab.c 007", "n12 ?n12ab ?n12ab ?c. ic n007"),
@@ -118,42 +119,42 @@ fn lays_out_blocks(rt: HostRuntime) -> Result<(), Fail> {
     let rows = [
         ("by", "wby"),
         ("by\ndef x", "wby wdef ix"),
-        ("by a; b", "wby { ia s; ib }"),
+        ("by a; b", "wby { ia w; ib }"),
         ("by\n  a\n  b\n c", "wby { ia ; ib } ic"),
         ("by\n  a\n   b\n  c", "wby { ia ib ; ic }"),
         (
             "by\n  · a\n    b\n  · c",
-            "wby { s· { ia ; ib } ; s· { ic } }",
+            "wby { w· { ia ; ib } ; w· { ic } }",
         ),
-        ("(by a) b", "s( wby { ia } s) ib"),
-        ("(by\n  a\n  )", "s( wby { ia ; } s)"),
-        ("by (\n a)\n   b", "wby { s( ia s) ; ib }"),
-        ("x·y", "ix s· { iy }"),
-        ("by a ) b", "wby { ia s) ib }"),
+        ("(by a) b", "w( wby { ia } w) ib"),
+        ("(by\n  a\n  )", "w( wby { ia ; } w)"),
+        ("by (\n a)\n   b", "wby { w( ia w) ; ib }"),
+        ("x·y", "ix w· { iy }"),
+        ("by a ) b", "wby { ia w) ib }"),
         (
             "theorem t : A := by\n  exact f\n  rfl\ndef",
-            "wtheorem it s: iA s:= wby { iexact if ; irfl } wdef",
+            "wtheorem it w: iA w:= wby { iexact if ; irfl } wdef",
         ),
         (
             "theorem t : T := f (by\n  have h : T := by\nexact g\n rfl)",
-            "wtheorem it s: iT s:= if s( wby { ihave ih s: iT s:= wby { iexact ig irfl } } s)",
+            "wtheorem it w: iT w:= if w( wby { ihave ih w: iT w:= wby { iexact ig irfl } } w)",
         ),
         (
             "by\n  have h : A := by\n  exact g\n  rfl",
-            "wby { ihave ih s: iA s:= wby { iexact ig ; irfl } }",
+            "wby { ihave ih w: iA w:= wby { iexact ig ; irfl } }",
         ),
-        ("inductive T where\n| a", "winductive iT wwhere s| ia"),
+        ("inductive T where\n| a", "winductive iT wwhere w| ia"),
         (
             "inductive T : by A where | a",
-            "winductive iT s: wby { iA } wwhere s| ia",
+            "winductive iT w: wby { iA } wwhere w| ia",
         ),
         (
             "def f : A := x where\n  g : B := y\n  h : C := z",
-            "wdef if s: iA s:= ix wwhere { ig s: iB s:= iy ; ih s: iC s:= iz }",
+            "wdef if w: iA w:= ix wwhere { ig w: iB w:= iy ; ih w: iC w:= iz }",
         ),
         (
             "theorem t : A := by\n  exact a\n  where\n  b : N := 1",
-            "wtheorem it s: iA s:= wby { iexact ia } wwhere { ib s: iN s:= n1 }",
+            "wtheorem it w: iA w:= wby { iexact ia } wwhere { ib w: iN w:= n1 }",
         ),
     ];
     for (source, want) in rows {
@@ -183,25 +184,35 @@ fn counts_places_in_bytes(rt: HostRuntime) -> Result<(), Fail> {
 }
 
 #[test]
-fn knows_words_and_operators(rt: HostRuntime) {
-    assert!(rt; is_command_word("theorem") && !is_command_word("lemma"));
-    assert!(rt; is_left_out_word("@[") && !is_left_out_word("@"));
-    assert!(rt; is_reserved_word("sorry") && !is_reserved_word("exact"));
-    for (text, level, side) in [
-        ("↔", 20, Side::Neither),
-        ("->", 25, Side::Right),
-        ("∨", 30, Side::Right),
-        ("/\\", 35, Side::Right),
-        ("¬", 40, Side::Prefix),
-        ("≠", 50, Side::Neither),
-        ("-", 65, Side::Left),
-        ("%", 70, Side::Left),
-    ] {
-        assert_eq!(rt;
-            operator_of(text),
-            Some(Operator { level, side }),
-            "of {text}"
-        );
+fn counts_nesting(rt: HostRuntime) -> Result<(), Fail> {
+    let rows = [
+        ("fun x => (a b) + c", "1 1 1 2 2 2 1 2 2"),
+        // `by` `{` `exact` `(` `a` `)` `;` `f` `+` `b` `;` `c` `}`
+        ("by exact (a); f + b; c", "1 1 1 2 2 1 1 1 2 2 1 1 1"),
+        // `by` `{` `exact` `let` `x` `:=` `1` `;` `let` `y` `:=` `2` `;` `z` `}`
+        (
+            "by exact let x := 1; let y := 2; z",
+            "1 1 1 2 2 2 2 2 3 3 3 3 3 3 1",
+        ),
+        // `by` `{` `f` `let` `x` `;` `y` `sep` `a` `;` `b` `}`
+        ("by\n f let x; y\n a; b", "1 1 1 2 2 2 2 1 1 1 1 1"),
+        ("(let x) ; a", "1 2 2 0 0 0"),
+        ("| a → b | c", "0 0 1 1 0 0"),
+        ("@f ¬ ∀ #check (", "1 1 2 3 0 1"),
+    ];
+    for (source, want) in rows {
+        let all = read(rt.alloc(), source)?;
+        let Ok(numbers) = nesting_numbers(rt.alloc(), &all) else {
+            return Err(Fail::from("no memory"));
+        };
+        let mut line = String::new(rt.alloc());
+        for number in &numbers {
+            if !line.is_empty() {
+                line.push(' ')?;
+            }
+            line.push_str(format!(in rt.alloc(); "{number}")?.as_str())?;
+        }
+        assert_eq!(rt; line.as_str(), want, "of {source}");
     }
-    assert_eq!(rt; operator_of(":="), None);
+    Ok(())
 }

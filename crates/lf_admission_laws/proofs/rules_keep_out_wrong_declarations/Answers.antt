@@ -1,4 +1,4 @@
-use Rattle.lf_admission_laws.proofs.Kept_out.{rules_keep_out}
+use Rattle.lf_admission_laws.proofs.Refusals.{rules_keep_out}
 use Rattle.lf_admission_laws.proofs.rules_keep_out_wrong_declarations.Goals as goal
 
 pub returns : goal.returns

@@ -1,6 +1,6 @@
 use Rattle.std.proofs.Common.{◌≡◌, Option, Some, None, List, length, filter, sym, ap, false}
 use Rattle.std.specs.Option.{is_some}
-use Rattle.lf_env.specs.View.{Entry}
+use Rattle.lf_checker.specs.View.{Entry}
 use Rattle.lf_env.specs.Layer.{is_within}
 use Rattle.lf_env.proofs.Entries.{filter_all}
 use Rattle.lf_env.proofs.layer.count.Goals as goal

@@ -1,7 +1,7 @@
 use Rattle.std.proofs.Common.{◌≡◌, ◌∙◌, ap, refl, Option, Some, None, List, [], ◌∷◌, Bool, true, false, cond, IfSome}
 use Rattle.std.specs.List.{find}
 use Rattle.std.specs.Option.{option_map}
-use Rattle.lf_env.specs.View.{Entry}
+use Rattle.lf_checker.specs.View.{Entry}
 use Rattle.lf_env.specs.Layer.{has_name}
 use Rattle.lf_env.proofs.layer.entry_in.Goals as goal
 

@@ -1,5 +1,5 @@
 use Rattle.std.proofs.Common.{◌-◌, ◌∙◌, ap, sym, take, drop, length}
-use Rattle.lf_env.specs.View.{find_entry}
+use Rattle.lf_checker.specs.View.{find_entry}
 use Rattle.lf_env.specs.Layer.{entries_of}
 use Rattle.lf_env.proofs.Entries.{found_first, found_later}
 use Rattle.lf_env.proofs.Turns.{first_and_rest}

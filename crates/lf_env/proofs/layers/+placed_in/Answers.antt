@@ -1,5 +1,5 @@
 use Rattle.std.proofs.Common.{◌+◌, ◌-◌, ◌∙◌, ap, sym, take, drop, length}
-use Rattle.lf_env.specs.View.{placed_from}
+use Rattle.lf_checker.specs.View.{placed_from}
 use Rattle.lf_env.specs.Layer.{entries_of}
 use Rattle.lf_env.proofs.Entries.{placed_first, placed_later}
 use Rattle.lf_env.proofs.Turns.{first_and_rest}

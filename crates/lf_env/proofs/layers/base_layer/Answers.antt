@@ -1,5 +1,5 @@
 use Rattle.std.proofs.Common.{◌≡◌, ◌∙◌, [], subst, IfOk}
-use Rattle.lf_env.specs.View.{base_entries}
+use Rattle.lf_checker.specs.View.{base_entries}
 use Rattle.lf_env.proofs.Entries.{insert_all_distinct, IsDistinct-base}
 use Rattle.lf_env.proofs.layers.base_layer.Goals as goal
 

@@ -1,6 +1,6 @@
 use Rattle.std.proofs.Common.{◌≡◌, []}
 use Rattle.indexmap.specs.IndexSet.{insert_all}
-use Rattle.lf_env.specs.View.{base_entries}
+use Rattle.lf_checker.specs.View.{base_entries}
 use Rattle.lf_env.specs.Names.{same_entry}
 use Rattle.lf_env.proofs.layers.base_table.Given as goal
 

@@ -1,4 +1,4 @@
-use Rattle.lf_env.specs.View.{Entry, stands_before}
+use Rattle.lf_checker.specs.View.{Entry, stands_before}
 use Rattle.lf_env.proofs.Turns.{before_turn}
 use Rattle.lf_env.proofs.layers.before.Goals as goal
 

@@ -1,6 +1,6 @@
 use Rattle.std.proofs.Common.{◌≡◌, take}
 use Rattle.std.specs.List.{filter}
-use Rattle.lf_env.specs.View.{stands_before}
+use Rattle.lf_checker.specs.View.{stands_before}
 use Rattle.lf_env.specs.Layer.{entries_of}
 use Rattle.lf_env.proofs.layers.before.Given as goal
 

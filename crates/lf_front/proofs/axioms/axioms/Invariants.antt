@@ -1,5 +1,5 @@
 use Rattle.std.proofs.Common.{All, length}
-use Rattle.lf_check.specs.Answers.{IsShallow}
+use Rattle.lf_front.specs.Answers.{IsShallow}
 use Rattle.lf_front.proofs.Declaring.{Forward, Backward}
 use Rattle.lf_front.proofs.axioms.axioms.Given as goal
 

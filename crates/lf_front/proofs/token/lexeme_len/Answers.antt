@@ -7,7 +7,9 @@ pub returns-then-starts-clause-longest : goal.returns-then-starts-clause-longest
 returns-then-starts-clause-longest c = identifier_front _ _ (grind (arith, common_steps)) (grind (arith, common_steps)) (grind (arith, common_steps))
 
 pub returns-then-is_digit-clause-longest : goal.returns-then-is_digit-clause-longest
-returns-then-is_digit-clause-longest c = number_front _ _ (grind (arith, common_steps)) (grind (arith, common_steps)) (grind (arith, common_steps)) (grind (arith, common_steps))
+returns-then-is_digit-clause-longest c = number_front _ _ (grind (arith, common_steps)) (grind (arith, common_steps)) (grind (arith, common_steps))
+    (grind (arith, common_steps))
 
 pub returns-clause-longest : goal.returns-clause-longest
-returns-clause-longest c = symbol_front _ _ (grind (arith, common_steps)) (grind (arith, common_steps)) (grind (arith, common_steps)) (grind (arith, common_steps))
+returns-clause-longest c = symbol_front _ _ (grind (arith, common_steps)) (grind (arith, common_steps)) (grind (arith, common_steps))
+    (grind (arith, common_steps))

@@ -14,7 +14,8 @@ tokens-preserved c = λ ts more.
     let n : ℕ = c.lexeme_len-n.result in
     let is : front ≡ past_white c.tokens.rest.now = c.past_white-front.ensures in
     let longest : IsLongest is_lexeme (past_white c.tokens.rest.now) n = subst (λ (cs : List ℕ). IsLongest is_lexeme cs n) is c.lexeme_len-n.ensures.longest in
-    let token : c.in_ok-token_of.field-0 ≡ token_of (take n (past_white c.tokens.rest.now)) = c.in_ok-token_of.ensures ∙ ap (λ (cs : List ℕ). token_of (take n cs)) is in
+    let token : c.in_ok-token_of.field-0 ≡ token_of (take n (past_white c.tokens.rest.now)) = c.in_ok-token_of.ensures ∙
+    ap (λ (cs : List ℕ). token_of (take n cs)) is in
     rw c.in_ok-push.ensures.items
     (one_more c.args.cs.now c.tokens.rest.now _ c.tokens.out.items c.in_ok-token_of.field-0 n c.tokens.invariant c.lexeme_len-n.ensures.some longest token
     (tail_is n front ∙ ap (drop n) is) ts more)

@@ -1,6 +1,0 @@
-use Rattle.std.proofs.Common.{sym}
-use Rattle.lf_check.proofs.Sound.{found_shallow}
-use Rattle.lf_check.proofs.typing.constant_type.Goals as goal
-
-pub at_levels-requires : goal.at_levels-requires
-at_levels-requires c = found_shallow c.args.consts.now c.args.name.now c.in-Some.found.now c.requires (sym c.in-Some.ensures)

@@ -1,0 +1,12 @@
+pub mod View
+pub mod Extends
+pub mod Run
+pub mod Calls
+pub mod LevelTest
+pub mod Structures
+pub mod Whnf
+pub mod Equal
+pub mod Infer
+pub mod Normalize
+pub mod Checker
+pub mod Admission

@@ -1,0 +1,4 @@
+pub mod Trees
+pub mod Unchanged
+pub mod Scopes
+pub mod Suffixes

@@ -1,0 +1,2 @@
+pub mod Base_views
+pub mod Worked

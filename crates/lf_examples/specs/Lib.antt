@@ -1,0 +1,5 @@
+pub mod Words
+pub mod Declarations
+pub mod Elimination
+pub mod Refused
+pub mod Views

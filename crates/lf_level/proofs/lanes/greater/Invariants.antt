@@ -1,0 +1,6 @@
+use Rattle.std.proofs.Common.{◌≡◌, ℕ, ◌<◌, length, get_or}
+use Rattle.std.specs.Prelude.{max}
+use Rattle.lf_level.proofs.lanes.greater.Given as goal
+
+abbrev pub invariant-loop-lane : goal.invariant-loop-lane
+invariant-loop-lane l = (length l.all ≡ 64) × ((k : ℕ) → k < l.lane → get_or l.all k 0 ≡ max (get_or l.a k 0) (get_or l.b k 0))

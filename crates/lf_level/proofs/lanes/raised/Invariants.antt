@@ -1,0 +1,5 @@
+use Rattle.std.proofs.Common.{◌≡◌, ℕ, ◌+◌, ◌<◌, length, get_or}
+use Rattle.lf_level.proofs.lanes.raised.Given as goal
+
+abbrev pub invariant-loop-lane : goal.invariant-loop-lane
+invariant-loop-lane l = (length l.all ≡ 64) × ((k : ℕ) → k < l.lane → get_or l.all k 0 ≡ get_or l.a k 0 + 1)

@@ -1,0 +1,10 @@
+pub mod Machine
+pub mod Lists
+pub mod Laws
+pub mod First
+pub mod Arguments
+pub mod Groups
+pub mod Forms
+pub mod Steps
+pub mod Sorts
+pub mod Puts

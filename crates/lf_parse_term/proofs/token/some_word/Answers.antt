@@ -1,0 +1,11 @@
+use Rattle.std.proofs.Common.{◌≡◌, ◌∙◌, sym, rules}
+use denote.Enum.Bare.{same_true}
+use Rattle.lf_text.specs.contracts.word.Word.{the_type}
+use Rattle.lf_parse_term.specs.View.{views}
+use Rattle.lf_parse_term.proofs.Laws.{some_taken}
+use Rattle.lf_parse_term.proofs.token.some_word.Goals as goal
+
+pub returns-in-Word-clause-told : goal.returns-in-Word-clause-told
+returns-in-Word-clause-told c =
+    let e : c.in-Word.found ≡ c.args.word = same_true the_type (search rules) _ _ (sym c.eq.ensures ∙ c.if-eq.true) in
+    some_taken c.args.word c.in-Word.found c.in-Word.spot (views c.in-Word.rest.now) (views c.args.toks.now) e c.in-Word.ensures.front

@@ -1,0 +1,7 @@
+pub mod Machine
+pub mod View
+pub mod Front
+pub mod Descent
+pub mod Level
+pub mod Spine
+pub mod Sort

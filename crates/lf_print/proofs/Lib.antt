@@ -1,0 +1,3 @@
+pub mod Unused
+pub mod Forms
+pub mod Opens

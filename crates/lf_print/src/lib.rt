@@ -1,0 +1,16 @@
+//! Terms as text.
+#![tactic(auto)]
+
+mod mark;
+mod operator;
+mod page;
+mod piece;
+mod printing;
+
+pub use mark::Mark;
+pub use operator::{Infix, negation, operation, relation};
+pub use page::LIMIT;
+pub use printing::print;
+
+#[cfg(test)]
+mod tests;

@@ -1,0 +1,9 @@
+pub mod Environment
+pub mod Structure
+pub mod Step
+pub mod Judgment
+pub mod Telescope
+pub mod Recursor
+pub mod Inductive
+pub mod Derived
+pub mod Ordinary

@@ -1,0 +1,5 @@
+pub mod Derivations
+pub mod Found
+pub mod LevelsOf
+pub mod Rows
+pub mod Says

@@ -1,5 +1,0 @@
-use Rattle.std.proofs.Common.{◌≡◌, take}
-use Rattle.lf_syntax.proofs.leaf.copy_idents.Given as goal
-
-abbrev pub invariant-loop-ident : goal.invariant-loop-ident
-invariant-loop-ident l = l.all ≡ take l.ident-index l.idents
