@@ -47,7 +47,8 @@ Begins xs ys = (rest : List ℕ) × (ys ≡ xs ++ rest)
 -- What reading to the end gives: at most `limit` bytes, or one more that shows that there are more.
 abbrev pub ReadsAll : ℕ → Option (List ℕ) → Option (List ℕ) → ℕ → ℕ → ReadAll → Type 0
 ReadsAll limit left left' faults faults' (whole.Whole text) = (length text.items ≤ limit) × Moves left left' text.items × IsAtEnd left'
-ReadsAll limit left left' faults faults' whole.TooLong = IfSome left (λ bytes. limit < length bytes) × (left' ≡ option_map (λ bytes. drop (limit + 1) bytes) left)
+ReadsAll limit left left' faults faults' whole.TooLong = IfSome left (λ bytes. limit < length bytes)
+    × (left' ≡ option_map (λ bytes. drop (limit + 1) bytes) left)
 ReadsAll limit left left' faults faults' whole.Failed = (rose faults faults' ≡ true) × ((bytes : List ℕ) × Moves left left' bytes)
 ReadsAll limit left left' faults faults' whole.NoMemory = Unit {0}
 

@@ -12,7 +12,29 @@ use Rattle.lf_core.specs.declared.constant.Detail.TheVariants.{Plain, Ind, Ctor,
 use Rattle.lf_checker.specs.View.{View}
 use Rattle.lf_checker.specs.Run.{Answer, done, refused, out, need, Run, go_on, gives, choose, made_before}
 use Rattle.lf_checker.specs.Calls.{Calls, Seen, known, unknown, missing, see}
-use Rattle.lf_checker.specs.Whnf.{Progress, stays, next, ends, operands, whnf_turn, head_turn, constant_turn, detail_turn, literal_turn, delta_turn, on_numbers, operated, projection_turn, Recursor, Split, put_in, put_in_seen, like_k, is_fieldless, is_prop_level}
+use Rattle.lf_checker.specs.Whnf.{
+  Progress,
+  stays,
+  next,
+  ends,
+  operands,
+  whnf_turn,
+  head_turn,
+  constant_turn,
+  detail_turn,
+  literal_turn,
+  delta_turn,
+  on_numbers,
+  operated,
+  projection_turn,
+  Recursor,
+  Split,
+  put_in,
+  put_in_seen,
+  like_k,
+  is_fieldless,
+  is_prop_level,
+}
 use Rattle.lf_check.specs.Steps.{Step, ready, operate, readied, literal_step, detail_step, constant_step, head_step, do_step, computed, projected}
 use Rattle.lf_rules.specs.Structure.{result_level}
 use Rattle.lf_steps.specs.Steps.{fieldless, fieldless_seen, put_or_stay}
@@ -35,10 +57,12 @@ module _ (V : View) (c : Calls) (d : Bool) (C : Context) where
   chosen true m n m' n' u p q = p
   chosen false m n m' n' u p q = q
 
-  one : (n : Path) (x : Term) (u : ℕ) → literal_turn c C n [] (x ∷ []) (delta_turn V d n [] (x ∷ [])) u ≡ go_on (literal_step n [] (x ∷ []) (delta_turn V d n [] (x ∷ [])) u) (do_step V c d C)
+  one : (n : Path) (x : Term) (u : ℕ) → literal_turn c C n [] (x ∷ []) (delta_turn V d n [] (x ∷ [])) u
+      ≡ go_on (literal_step n [] (x ∷ []) (delta_turn V d n [] (x ∷ [])) u) (do_step V c d C)
   one n (lit k) u =
       let rest = delta_turn V d n [] (lit k ∷ []) in
-      chosen (same (const n []) nat_succ && nat_lt (suc k) (2 ^ 128)) (gives (ends (lit (suc k)))) rest (gives (ready (ends (lit (suc k))))) (readied rest) u refl (readied_done (rest u))
+      chosen (same (const n []) nat_succ && nat_lt (suc k) (2 ^ 128)) (gives (ends (lit (suc k)))) rest (gives (ready (ends (lit (suc k))))) (readied rest) u
+      refl (readied_done (rest u))
   one n (bound i) u = readied_done (delta_turn V d n [] (bound i ∷ []) u)
   one n (free k) u = readied_done (delta_turn V d n [] (free k ∷ []) u)
   one n (meta k) u = readied_done (delta_turn V d n [] (meta k ∷ []) u)
@@ -51,12 +75,14 @@ module _ (V : View) (c : Calls) (d : Bool) (C : Context) where
   one n (proj s i t) u = readied_done (delta_turn V d n [] (proj s i t ∷ []) u)
 
   pair : (n : Path) (x y : Term) (u : ℕ) → let rest = delta_turn V d n [] (x ∷ y ∷ []) in
-      choose (is_some (operation_of n)) (operands c C n x y rest) rest u ≡ go_on (choose (is_some (operation_of n)) (gives (operate n x y)) (readied rest) u) (do_step V c d C)
+      choose (is_some (operation_of n)) (operands c C n x y rest) rest u
+      ≡ go_on (choose (is_some (operation_of n)) (gives (operate n x y)) (readied rest) u) (do_step V c d C)
   pair n x y u =
       let rest = delta_turn V d n [] (x ∷ y ∷ []) in
       chosen (is_some (operation_of n)) (operands c C n x y rest) rest (gives (operate n x y)) (readied rest) u refl (readied_done (rest u))
 
-  two : (n : Path) (x y : Term) (u : ℕ) → literal_turn c C n [] (x ∷ y ∷ []) (delta_turn V d n [] (x ∷ y ∷ [])) u ≡ go_on (literal_step n [] (x ∷ y ∷ []) (delta_turn V d n [] (x ∷ y ∷ [])) u) (do_step V c d C)
+  two : (n : Path) (x y : Term) (u : ℕ) → literal_turn c C n [] (x ∷ y ∷ []) (delta_turn V d n [] (x ∷ y ∷ [])) u
+      ≡ go_on (literal_step n [] (x ∷ y ∷ []) (delta_turn V d n [] (x ∷ y ∷ [])) u) (do_step V c d C)
   two n (lit k) y u = pair n (lit k) y u
   two n (bound i) y u = pair n (bound i) y u
   two n (free k) y u = pair n (free k) y u
@@ -69,7 +95,8 @@ module _ (V : View) (c : Calls) (d : Bool) (C : Context) where
   two n (letin w A v b) y u = pair n (letin w A v b) y u
   two n (proj s i t) y u = pair n (proj s i t) y u
 
-  literal : (n : Path) (ls : List Universe) (xs : List Term) (u : ℕ) → literal_turn c C n ls xs (delta_turn V d n ls xs) u ≡ go_on (literal_step n ls xs (delta_turn V d n ls xs) u) (do_step V c d C)
+  literal : (n : Path) (ls : List Universe) (xs : List Term) (u : ℕ)
+      → literal_turn c C n ls xs (delta_turn V d n ls xs) u ≡ go_on (literal_step n ls xs (delta_turn V d n ls xs) u) (do_step V c d C)
   literal n (l ∷ ls) xs u = readied_done (delta_turn V d n (l ∷ ls) xs u)
   literal n [] [] u = readied_done (delta_turn V d n [] [] u)
   literal n [] (x ∷ []) u = one n x u
@@ -86,15 +113,18 @@ module _ (V : View) (c : Calls) (d : Bool) (C : Context) where
   literal n [] (letin w A v b ∷ y ∷ z ∷ zs) u = readied_done (delta_turn V d n [] (letin w A v b ∷ y ∷ z ∷ zs) u)
   literal n [] (proj s i t ∷ y ∷ z ∷ zs) u = readied_done (delta_turn V d n [] (proj s i t ∷ y ∷ z ∷ zs) u)
 
-  detail : (n : Path) (ls : List Universe) (xs : List Term) (k : Detail) (u : ℕ) → detail_turn V c d C n ls xs k u ≡ go_on (detail_step V d n ls xs k u) (do_step V c d C)
+  detail : (n : Path) (ls : List Universe) (xs : List Term) (k : Detail) (u : ℕ)
+      → detail_turn V c d C n ls xs k u ≡ go_on (detail_step V d n ls xs k u) (do_step V c d C)
   detail n ls xs Plain u = literal n ls xs u
   detail n ls xs (Ind params indices ctors large) u = literal n ls xs u
   detail n ls xs (Ctor ind index own fields) u = literal n ls xs u
   detail n ls xs (Rec ind params minors indices rules) u = refl
 
-  constant : (n : Path) (ls : List Universe) (xs : List Term) (s : Seen) (u : ℕ) → constant_turn V c d C n ls xs s u ≡ go_on (constant_step V d n ls xs s u) (do_step V c d C)
+  constant : (n : Path) (ls : List Universe) (xs : List Term) (s : Seen) (u : ℕ)
+      → constant_turn V c d C n ls xs s u ≡ go_on (constant_step V d n ls xs s u) (do_step V c d C)
   constant n ls xs (known k) u =
-      chosen (nat_eq (length ls) (length k.levels)) (detail_turn V c d C n ls xs k.detail) (gives stays) (detail_step V d n ls xs k.detail) (gives (ready stays)) u (detail n ls xs k.detail u) refl
+      chosen (nat_eq (length ls) (length k.levels)) (detail_turn V c d C n ls xs k.detail) (gives stays) (detail_step V d n ls xs k.detail)
+      (gives (ready stays)) u (detail n ls xs k.detail u) refl
   constant n ls xs unknown u = refl
   constant n ls xs (missing k) u = refl
 
@@ -112,7 +142,8 @@ module _ (V : View) (c : Calls) (d : Bool) (C : Context) where
   at_head (pi x A b) xs u = refl
   at_head (lit n) xs u = refl
 
-pub turn_is : (V : View) (c : Calls) (d : Bool) (C : Context) (t : Term) (u : ℕ) → whnf_turn V c d C t u ≡ go_on (head_step V d (head_of t) (arguments_of t) u) (do_step V c d C)
+pub turn_is : (V : View) (c : Calls) (d : Bool) (C : Context) (t : Term) (u : ℕ)
+    → whnf_turn V c d C t u ≡ go_on (head_step V d (head_of t) (arguments_of t) u) (do_step V c d C)
 turn_is V c d C t u = at_head V c d C (head_of t) (arguments_of t) u
 
 pub on_numbers_is : (n : Path) (p q : Option ℕ) (rest : Run Progress) → on_numbers n p q rest ≡ operated (computed n p q) rest
@@ -138,7 +169,8 @@ seen_in V c C ls r s w n unknown u = refl
 seen_in V c C ls r s w n (missing k) u = refl
 
 in_prop : (V : View) (c : Calls) (C : Context) (ls : List Universe) (r : Recursor) (s : Split) (w : Term) (n : Path) (b : Bool) (u : ℕ)
-    → choose b (put_in_seen V c C ls r s w n (see V n)) (gives stays) u ≡ go_on (choose b (fieldless_seen r n (see V n)) (gives None) u) (put_or_stay V c C ls r s w)
+    → choose b (put_in_seen V c C ls r s w n (see V n)) (gives stays) u
+    ≡ go_on (choose b (fieldless_seen r n (see V n)) (gives None) u) (put_or_stay V c C ls r s w)
 in_prop V c C ls r s w n true u = seen_in V c C ls r s w n (see V n) u
 in_prop V c C ls r s w n false u = refl
 

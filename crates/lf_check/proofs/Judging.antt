@@ -10,14 +10,16 @@ use Rattle.lf_checker.specs.Infer.{on_sort, on_structure, sort_of}
 use Rattle.lf_check.specs.Bodies.{formed, projection}
 
 -- What goes on from a type and its weak head form.
-second : {B : Type 0} (T : Term) (k : Term → Term → Run B) (o : Answer Term) → go_on o (k T) ≡ go_on {A = Term × Term} (go_on {B = Term × Term} o (λ W. gives (T, W))) (λ p. k p.0 p.1)
+second : {B : Type 0} (T : Term) (k : Term → Term → Run B) (o : Answer Term)
+    → go_on o (k T) ≡ go_on {A = Term × Term} (go_on {B = Term × Term} o (λ W. gives (T, W))) (λ p. k p.0 p.1)
 second T k (done W u) = refl
 second T k (refused e u) = refl
 second T k out = refl
 second T k (need j) = refl
 
 first : {B : Type 0} (m : Term → Run Term) (k : Term → Term → Run B) (o : Answer Term)
-    → go_on o (λ T u. go_on (m T u) (k T)) ≡ go_on {A = Term × Term} (go_on {B = Term × Term} o (λ T u. go_on {B = Term × Term} (m T u) (λ W. gives (T, W)))) (λ p. k p.0 p.1)
+    → go_on o (λ T u. go_on (m T u) (k T)) ≡ go_on {A = Term × Term} (go_on {B = Term × Term} o (λ T u. go_on {B = Term × Term} (m T u) (λ W. gives (T, W))))
+    (λ p. k p.0 p.1)
 first m k (done T u) = second T k (m T u)
 first m k (refused e u) = refl
 first m k out = refl

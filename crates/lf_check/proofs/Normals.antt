@@ -22,7 +22,8 @@ pub into_more : (c : Calls) (C : Context) (ready : List Term) (x : Term) (xs : L
     → normalize_into c C ready (x ∷ xs) u ≡ go_on (c.normalize C x u) (λ y. normalize_into c C (ready ++ y ∷ []) xs)
 into_more c C ready x xs u = by_first (c.normalize C x u)
   where
-    by_first : (o : Answer Term) → go_on (go_on o (λ y v. go_on (normalize_all c C xs v) (λ ys. gives (y ∷ ys)))) (λ zs. gives (ready ++ zs)) ≡ go_on o (λ y. normalize_into c C (ready ++ y ∷ []) xs)
+    by_first : (o : Answer Term) → go_on (go_on o (λ y v. go_on (normalize_all c C xs v) (λ ys. gives (y ∷ ys)))) (λ zs. gives (ready ++ zs))
+        ≡ go_on o (λ y. normalize_into c C (ready ++ y ∷ []) xs)
     by_first (done y v) = put_behind ready y (normalize_all c C xs v)
     by_first (refused e v) = refl
     by_first out = refl

@@ -16,7 +16,38 @@ use Rattle.lf_checker.specs.Equal.{Verdict, decided, again, undecided}
 use Rattle.lf_steps.specs.Runs.{enter}
 use Rattle.lf_check.specs.Steps as steps
 use Rattle.lf_check.specs.Tower as tower
-use Rattle.lf_check.specs.Tower.{head_step, put_in, like_k, at_type, at_seen, on_split, operands, projection, do_step, whnf_turn, whnf_loop, whnf_body, by_form, by_proofs, by_eta, eta_by, eta_at, equal_heads, built_of, against_built, by_structures, by_types, by_literals, by_arguments, by_unfolding, by_heads, by_rest, equal_turn, equal_loop, equal_body}
+use Rattle.lf_check.specs.Tower.{
+  head_step,
+  put_in,
+  like_k,
+  at_type,
+  at_seen,
+  on_split,
+  operands,
+  projection,
+  do_step,
+  whnf_turn,
+  whnf_loop,
+  whnf_body,
+  by_form,
+  by_proofs,
+  by_eta,
+  eta_by,
+  eta_at,
+  equal_heads,
+  built_of,
+  against_built,
+  by_structures,
+  by_types,
+  by_literals,
+  by_arguments,
+  by_unfolding,
+  by_heads,
+  by_rest,
+  equal_turn,
+  equal_loop,
+  equal_body,
+}
 use Rattle.lf_check.proofs.HeadSteps.{turn_is, like_k_is}
 use Rattle.lf_check.proofs.Nest.{at_whnf, at_equal}
 
@@ -37,14 +68,16 @@ or_tower V c C ls r s w type stays u = like_k_tower V c C ls r s w type u
 or_tower V c C ls r s w type (next t) u = refl
 or_tower V c C ls r s w type (ends t) u = refl
 
-at_tower : (V : View) (c : Calls) (C : Context) (ls : List Universe) (r : Recursor) (s : Split) (k : Seen) (u : ℕ) → at_seen V c C ls r s k u ≡ whnf.at_major V c C ls r s k u
+at_tower : (V : View) (c : Calls) (C : Context) (ls : List Universe) (r : Recursor) (s : Split) (k : Seen) (u : ℕ)
+    → at_seen V c C ls r s k u ≡ whnf.at_major V c C ls r s k u
 unfolding at_type
 at_tower V c C ls r s (known type) u =
     bound (c.whnf true C s.major u) _ _ (λ w v. bound (fire V r ls s (literal_constructor w) v) _ _ (λ p i. or_tower V c C ls r s w type p i))
 at_tower V c C ls r s unknown u = refl
 at_tower V c C ls r s (missing k) u = refl
 
-split_tower : (V : View) (c : Calls) (C : Context) (ls : List Universe) (r : Recursor) (o : Option Split) (u : ℕ) → on_split V c C ls r o u ≡ whnf.recursor_turn V c C ls r o u
+split_tower : (V : View) (c : Calls) (C : Context) (ls : List Universe) (r : Recursor) (o : Option Split) (u : ℕ)
+    → on_split V c C ls r o u ≡ whnf.recursor_turn V c C ls r o u
 split_tower V c C ls r None u = refl
 split_tower V c C ls r (Some s) u = at_tower V c C ls r s (see V r.ind) u
 
@@ -59,8 +92,10 @@ turn_tower : (V : View) (c : Calls) (d : Bool) (C : Context) (t : Term) (u : ℕ
 unfolding whnf_turn head_step
 turn_tower V c d C t u = bound (head_step V d t u) _ _ (λ s v. step_tower V c d C s v) ∙ sym (turn_is V c d C t u)
 
-turned : (V : View) (c : Calls) (d : Bool) (C : Context) (n : ℕ) (t : Term) (ih : (s : Term) (v : ℕ) → whnf_loop V c d C n s v ≡ whnf.whnf_loop V c d C n s v) (p : Progress) (u : ℕ)
-    → (elim p as (λ _. Run Term) [ stays ↦ gives t | next s ↦ whnf_loop V c d C n s | ends s ↦ gives s ]) u ≡ (elim p as (λ _. Run Term) [ stays ↦ gives t | next s ↦ whnf.whnf_loop V c d C n s | ends s ↦ gives s ]) u
+turned : (V : View) (c : Calls) (d : Bool) (C : Context) (n : ℕ) (t : Term) (ih : (s : Term) (v : ℕ) → whnf_loop V c d C n s v ≡ whnf.whnf_loop V c d C n s v)
+    (p : Progress) (u : ℕ)
+    → (elim p as (λ _. Run Term) [ stays ↦ gives t | next s ↦ whnf_loop V c d C n s | ends s ↦ gives s ]) u
+    ≡ (elim p as (λ _. Run Term) [ stays ↦ gives t | next s ↦ whnf.whnf_loop V c d C n s | ends s ↦ gives s ]) u
 turned V c d C n t ih stays u = refl
 turned V c d C n t ih (next s) u = ih s u
 turned V c d C n t ih (ends s) u = refl
@@ -83,11 +118,14 @@ whnf_start V d delta C t u = at_whnf V d delta C t u ∙ bound (enter d u) _ _ (
 -- ---- Equality.
 
 turn_equal : (V : View) (c : Calls) (C : Context) (a b : Term) (u : ℕ) → equal_turn V c C a b u ≡ equal.equal_turn V c C a b u
-unfolding equal_turn by_form by_rest by_heads by_unfolding by_arguments equal_heads by_literals by_types by_structures against_built built_of eta_at eta_by by_eta by_proofs
+unfolding equal_turn by_form by_rest by_heads by_unfolding by_arguments equal_heads by_literals by_types by_structures against_built built_of eta_at eta_by
+    by_eta by_proofs
 turn_equal V c C a b u = refl
 
-decided_turn : (V : View) (c : Calls) (C : Context) (n : ℕ) (ih : (x y : Term) (v : ℕ) → equal_loop V c C n x y v ≡ equal.equal_loop V c C n x y v) (p : Verdict) (u : ℕ)
-    → (elim p as (λ _. Run Bool) [ decided r ↦ gives r | again x y ↦ equal_loop V c C n x y | undecided ↦ gives false ]) u ≡ (elim p as (λ _. Run Bool) [ decided r ↦ gives r | again x y ↦ equal.equal_loop V c C n x y | undecided ↦ gives false ]) u
+decided_turn : (V : View) (c : Calls) (C : Context) (n : ℕ) (ih : (x y : Term) (v : ℕ) → equal_loop V c C n x y v ≡ equal.equal_loop V c C n x y v)
+    (p : Verdict) (u : ℕ)
+    → (elim p as (λ _. Run Bool) [ decided r ↦ gives r | again x y ↦ equal_loop V c C n x y | undecided ↦ gives false ]) u
+    ≡ (elim p as (λ _. Run Bool) [ decided r ↦ gives r | again x y ↦ equal.equal_loop V c C n x y | undecided ↦ gives false ]) u
 decided_turn V c C n ih (decided r) u = refl
 decided_turn V c C n ih (again x y) u = ih x y u
 decided_turn V c C n ih undecided u = refl

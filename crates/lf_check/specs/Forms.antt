@@ -11,7 +11,21 @@ use Rattle.lf_checker.specs.Run.{Run, ◌>>=◌, gives, refuse, choose, made}
 use Rattle.lf_checker.specs.declared.fault.TypeFault.TheVariants.{NotFunction, NotStructure}
 use Rattle.lf_checker.specs.Calls.{Mode, checked, unchecked, Calls}
 use Rattle.lf_checker.specs.Equal as equal
-use Rattle.lf_checker.specs.Equal.{Verdict, decided, again, undecided, decides, equal_binders, eta_expansion, against_left, against_right, Built, equal_all, equal_fields, and_then}
+use Rattle.lf_checker.specs.Equal.{
+  Verdict,
+  decided,
+  again,
+  undecided,
+  decides,
+  equal_binders,
+  eta_expansion,
+  against_left,
+  against_right,
+  Built,
+  equal_all,
+  equal_fields,
+  and_then,
+}
 use Rattle.lf_check.specs.declared.form.Form.{Form}
 use Rattle.lf_check.specs.declared.form.Form.TheVariants.{Settled, Binders, Other}
 use Rattle.lf_check.specs.declared.form.Side.{Side}

@@ -1,5 +1,27 @@
 -- What the checker's functions ask for before they call each other, where the code finds it out in functions of its own. A device of the proof.
-use Rattle.std.specs.Prelude.{ℕ, ◌+◌, ◌^◌, zero, suc, Bool, true, false, ◌&&◌, ◌||◌, nat_eq, nat_lt, if◌then◌else◌, is_some, Option, Some, None, List, [], ◌∷◌, length}
+use Rattle.std.specs.Prelude.{
+  ℕ,
+  ◌+◌,
+  ◌^◌,
+  zero,
+  suc,
+  Bool,
+  true,
+  false,
+  ◌&&◌,
+  ◌||◌,
+  nat_eq,
+  nat_lt,
+  if◌then◌else◌,
+  is_some,
+  Option,
+  Some,
+  None,
+  List,
+  [],
+  ◌∷◌,
+  length,
+}
 use Rattle.lf_core.specs.Term.{Path, Universe, Term, bound, sort, const, app, lam, pi, letin, lit, proj}
 use Rattle.lf_core.specs.Same.{same, same_path}
 use Rattle.lf_core.specs.Substitution.{instantiate}

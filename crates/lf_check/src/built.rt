@@ -63,7 +63,8 @@ fn built_detail<'a>(
     levels: &'a [Level],
     arguments: Vec<Expr>,
 ) -> Result<Option<Built<'a>>, Halt>
-    ensures value { RunsAs (option_map own.built) (spec.built_detail view.now constructor.now levels.now arguments.items info.now.detail units.old) result units.new }
+    ensures value { RunsAs (option_map own.built) (spec.built_detail view.now constructor.now levels.now arguments.items info.now.detail units.old) result
+        units.new }
     ensures calm { Calm result }
 {
     match &info.detail {
@@ -137,7 +138,8 @@ pub fn is_type_of(
     head: &Expr,
     params: &[Expr],
 ) -> Result<bool, NoMemory>
-    ensures { IfOk result (λ r. (c : Calls) (C : Context) (y : Term) → tower.eta_by c C (own.built built.now) y head.now params.now ≡ forms.if_fits c C (own.built built.now) y params.now r) }
+    ensures { IfOk result (λ r. (c : Calls) (C : Context) (y : Term)
+        → tower.eta_by c C (own.built built.now) y head.now params.now ≡ forms.if_fits c C (own.built built.now) y params.now r) }
 {
     match head.node() {
         ExprNode::Const(name, levels) => fits(alloc, built, name, levels.as_slice(), params),

@@ -58,7 +58,8 @@ fn ended<T>(opened: &mut Vec<Name>, units: &mut u64, halt: Halt, left: u64) -> A
 /// the count of stops rose; or NoMemory. After all but Done and Refused no units are left.
 #[tactic(auto, using(crate::proofs::Ends::ends_answers))]
 pub fn whnf<P: Stop>(alloc: Global, cx: &mut CheckCx<'_, P>, term: &Expr) -> Ans<Expr, TypeFault>
-    ensures value { Answers ((calls cx.old.view.now cx.old.budget.depth).whnf true cx.old.locals.items term.now cx.old.budget.units) result cx.new.budget.units cx.new.opened.items }
+    ensures value { Answers ((calls cx.old.view.now cx.old.budget.depth).whnf true cx.old.locals.items term.now cx.old.budget.units) result
+        cx.new.budget.units cx.new.opened.items }
     ensures kept { cx.new.locals.items ≡ cx.old.locals.items }
     ensures nesting { cx.new.budget.depth ≡ cx.old.budget.depth }
     ensures count { P.stops cx.old.stop.now ≤ P.stops cx.new.stop.now }
@@ -93,7 +94,8 @@ pub fn equal<P: Stop>(
     a: &Expr,
     b: &Expr,
 ) -> Ans<bool, TypeFault>
-    ensures value { Answers ((calls cx.old.view.now cx.old.budget.depth).equal cx.old.locals.items a.now b.now cx.old.budget.units) result cx.new.budget.units cx.new.opened.items }
+    ensures value { Answers ((calls cx.old.view.now cx.old.budget.depth).equal cx.old.locals.items a.now b.now cx.old.budget.units) result cx.new.budget.units
+        cx.new.opened.items }
     ensures kept { cx.new.locals.items ≡ cx.old.locals.items }
     ensures nesting { cx.new.budget.depth ≡ cx.old.budget.depth }
     ensures count { P.stops cx.old.stop.now ≤ P.stops cx.new.stop.now }
@@ -123,7 +125,8 @@ pub fn equal<P: Stop>(
 /// the count of stops rose; or NoMemory. After all but Done and Refused no units are left.
 #[tactic(auto, using(crate::proofs::Ends::ends_answers))]
 pub fn infer<P: Stop>(alloc: Global, cx: &mut CheckCx<'_, P>, term: &Expr) -> Ans<Expr, TypeFault>
-    ensures value { Answers ((calls cx.old.view.now cx.old.budget.depth).infer checked cx.old.locals.items term.now cx.old.budget.units) result cx.new.budget.units cx.new.opened.items }
+    ensures value { Answers ((calls cx.old.view.now cx.old.budget.depth).infer checked cx.old.locals.items term.now cx.old.budget.units) result
+        cx.new.budget.units cx.new.opened.items }
     ensures kept { cx.new.locals.items ≡ cx.old.locals.items }
     ensures nesting { cx.new.budget.depth ≡ cx.old.budget.depth }
     ensures count { P.stops cx.old.stop.now ≤ P.stops cx.new.stop.now }
@@ -165,7 +168,8 @@ pub fn infer_unchecked<P: Stop>(
     types: &[Expr],
     term: &Expr,
 ) -> Ans<Expr, TypeFault>
-    ensures value { Answers ((calls cx.old.view.now cx.old.budget.depth).infer (unchecked types.now) cx.old.locals.items term.now cx.old.budget.units) result cx.new.budget.units cx.new.opened.items }
+    ensures value { Answers ((calls cx.old.view.now cx.old.budget.depth).infer (unchecked types.now) cx.old.locals.items term.now cx.old.budget.units) result
+        cx.new.budget.units cx.new.opened.items }
     ensures kept { cx.new.locals.items ≡ cx.old.locals.items }
     ensures nesting { cx.new.budget.depth ≡ cx.old.budget.depth }
     ensures count { P.stops cx.old.stop.now ≤ P.stops cx.new.stop.now }
@@ -202,7 +206,8 @@ pub fn infer_unchecked<P: Stop>(
 /// the count of stops rose; or NoMemory. After all but Done and Refused no units are left.
 #[tactic(auto, using(crate::proofs::Ends::ends_answers))]
 pub fn nf<P: Stop>(alloc: Global, cx: &mut CheckCx<'_, P>, term: &Expr) -> Ans<Expr, TypeFault>
-    ensures value { Answers ((calls cx.old.view.now cx.old.budget.depth).normalize cx.old.locals.items term.now cx.old.budget.units) result cx.new.budget.units cx.new.opened.items }
+    ensures value { Answers ((calls cx.old.view.now cx.old.budget.depth).normalize cx.old.locals.items term.now cx.old.budget.units) result
+        cx.new.budget.units cx.new.opened.items }
     ensures kept { cx.new.locals.items ≡ cx.old.locals.items }
     ensures nesting { cx.new.budget.depth ≡ cx.old.budget.depth }
     ensures count { P.stops cx.old.stop.now ≤ P.stops cx.new.stop.now }

@@ -22,7 +22,7 @@ use crate::mode::Mode;
 use crate::reduce::whnf;
 use crate::turn::unfold_heads;
 use lf_base::Stop;
-use lf_core::{Expr, Name, discard};
+use lf_core::{Expr, Name};
 use lf_steps::{Halt, Verdict, arguments, attempt, enter, head, is_prop, opening, out};
 
 /// Whether two terms are equal.
@@ -68,26 +68,26 @@ pub fn equal_loop<P: Stop>(
     'turns: while left > 0 {
         match equal_turn(cx, locals, units, stop, &x, &y)? {
             Verdict::Decided(same) => {
-                discard(x);
-                discard(y);
+                drop(x);
+                drop(y);
                 return Ok(same);
             }
             Verdict::Undecided => {
-                discard(x);
-                discard(y);
+                drop(x);
+                drop(y);
                 return Ok(false);
             }
             Verdict::Again(next, other) => {
-                discard(x);
-                discard(y);
+                drop(x);
+                drop(y);
                 x = next;
                 y = other;
             }
         }
         left -= 1;
     }
-    discard(x);
-    discard(y);
+    drop(x);
+    drop(y);
     Err(out(units))
 }
 
@@ -102,7 +102,8 @@ pub fn equal_turn<P: Stop>(
     a: &Expr,
     b: &Expr,
 ) -> Result<Verdict, Halt>
-    ensures value { RunsAs values.verdict (tower.equal_turn cx.entry.view.now (calls cx.entry.view.now cx.entry.depth) locals.old.items a.now b.now units.old) result units.new }
+    ensures value { RunsAs values.verdict (tower.equal_turn cx.entry.view.now (calls cx.entry.view.now cx.entry.depth) locals.old.items a.now b.now units.old)
+        result units.new }
     ensures kept { locals.new.items ≡ locals.old.items }
     ensures count { P.stops stop.old ≤ P.stops stop.new }
     ensures rose { Rose result (P.stops stop.old) (P.stops stop.new) }
@@ -144,8 +145,8 @@ pub fn equal_binders<P: Stop>(
         open(cx.alloc, locals, a)?;
         let same = equal(cx, locals, units, stop, &x, &y);
         close(locals);
-        discard(x);
-        discard(y);
+        drop(x);
+        drop(y);
         same
     } else {
         Ok(false)
@@ -163,7 +164,8 @@ pub fn by_rest<P: Stop>(
     a: &Expr,
     b: &Expr,
 ) -> Result<Verdict, Halt>
-    ensures value { RunsAs values.verdict (tower.by_rest cx.entry.view.now (calls cx.entry.view.now cx.entry.depth) locals.old.items a.now b.now units.old) result units.new }
+    ensures value { RunsAs values.verdict (tower.by_rest cx.entry.view.now (calls cx.entry.view.now cx.entry.depth) locals.old.items a.now b.now units.old)
+        result units.new }
     ensures kept { locals.new.items ≡ locals.old.items }
     ensures count { P.stops stop.old ≤ P.stops stop.new }
     ensures rose { Rose result (P.stops stop.old) (P.stops stop.new) }
@@ -198,8 +200,8 @@ pub fn by_whnf<P: Stop>(
     let x = whnf(cx, locals, units, stop, false, a)?;
     let y = whnf(cx, locals, units, stop, false, b)?;
     if a.is(&x) && b.is(&y) {
-        discard(x);
-        discard(y);
+        drop(x);
+        drop(y);
         Ok(Verdict::Undecided)
     } else {
         Ok(Verdict::Again(x, y))
@@ -217,7 +219,8 @@ pub fn by_types<P: Stop>(
     a: &Expr,
     b: &Expr,
 ) -> Result<Verdict, Halt>
-    ensures value { RunsAs values.verdict (tower.by_types cx.entry.view.now (calls cx.entry.view.now cx.entry.depth) locals.old.items a.now b.now units.old) result units.new }
+    ensures value { RunsAs values.verdict (tower.by_types cx.entry.view.now (calls cx.entry.view.now cx.entry.depth) locals.old.items a.now b.now units.old)
+        result units.new }
     ensures kept { locals.new.items ≡ locals.old.items }
     ensures count { P.stops stop.old ≤ P.stops stop.new }
     ensures rose { Rose result (P.stops stop.old) (P.stops stop.new) }
@@ -252,7 +255,7 @@ pub fn by_proofs<P: Stop>(
     match attempt(stated)? {
         Some(Some(wanted)) => {
             let proved = proves(cx, locals, units, stop, b, &wanted);
-            discard(wanted);
+            drop(wanted);
             let proved = attempt(proved)?;
             Ok(proved == Some(true))
         }
@@ -279,13 +282,13 @@ pub fn proposition<P: Stop>(
     let ty = infer(cx, locals, units, stop, Mode::Checked, a)?;
     let sort = infer(cx, locals, units, stop, Mode::Checked, &ty)?;
     let form = whnf(cx, locals, units, stop, true, &sort)?;
-    discard(sort);
+    drop(sort);
     let stated = is_prop(cx.alloc, &form)?;
-    discard(form);
+    drop(form);
     if stated {
         Ok(Some(ty))
     } else {
-        discard(ty);
+        drop(ty);
         Ok(None)
     }
 }
@@ -308,7 +311,7 @@ pub fn proves<P: Stop>(
 {
     let ty = infer(cx, locals, units, stop, Mode::Checked, b)?;
     let same = equal(cx, locals, units, stop, wanted, &ty);
-    discard(ty);
+    drop(ty);
     same
 }
 
@@ -332,7 +335,7 @@ pub fn by_eta<P: Stop>(
         Side::Left => match eta_expansion(cx, locals, units, stop, b)? {
             Some(expansion) => {
                 let same = equal(cx, locals, units, stop, a, &expansion);
-                discard(expansion);
+                drop(expansion);
                 Ok(Verdict::Decided(same?))
             }
             None => Ok(Verdict::Undecided),
@@ -340,7 +343,7 @@ pub fn by_eta<P: Stop>(
         Side::Right => match eta_expansion(cx, locals, units, stop, a)? {
             Some(expansion) => {
                 let same = equal(cx, locals, units, stop, &expansion, b);
-                discard(expansion);
+                drop(expansion);
                 Ok(Verdict::Decided(same?))
             }
             None => Ok(Verdict::Undecided),
@@ -368,9 +371,9 @@ pub fn eta_expansion<P: Stop>(
     match attempt(ty)? {
         Some(ty) => {
             let form = whnf(cx, locals, units, stop, true, &ty)?;
-            discard(ty);
+            drop(ty);
             let expansion = expanded(cx.alloc, units, term, &form);
-            discard(form);
+            drop(form);
             expansion
         }
         None => Ok(None),
@@ -388,7 +391,8 @@ pub fn by_structures<P: Stop>(
     a: &Expr,
     b: &Expr,
 ) -> Result<Verdict, Halt>
-    ensures value { RunsAs values.verdict (tower.by_structures cx.entry.view.now (calls cx.entry.view.now cx.entry.depth) locals.old.items a.now b.now units.old) result units.new }
+    ensures value { RunsAs values.verdict (tower.by_structures cx.entry.view.now (calls cx.entry.view.now cx.entry.depth) locals.old.items a.now b.now
+        units.old) result units.new }
     ensures kept { locals.new.items ≡ locals.old.items }
     ensures count { P.stops stop.old ≤ P.stops stop.new }
     ensures rose { Rose result (P.stops stop.old) (P.stops stop.new) }
@@ -413,7 +417,8 @@ pub fn against_built<P: Stop>(
     x: &Expr,
     y: &Expr,
 ) -> Result<bool, Halt>
-    ensures value { Runs (tower.against_built cx.entry.view.now (calls cx.entry.view.now cx.entry.depth) locals.old.items x.now y.now units.old) result units.new }
+    ensures value { Runs (tower.against_built cx.entry.view.now (calls cx.entry.view.now cx.entry.depth) locals.old.items x.now y.now units.old) result
+        units.new }
     ensures kept { locals.new.items ≡ locals.old.items }
     ensures count { P.stops stop.old ≤ P.stops stop.new }
     ensures rose { Rose result (P.stops stop.old) (P.stops stop.new) }
@@ -427,7 +432,7 @@ pub fn against_built<P: Stop>(
             match attempt(form)? {
                 Some(form) => {
                     let same = eta_at(cx, locals, units, stop, &built, y, &form);
-                    discard(form);
+                    drop(form);
                     same
                 }
                 None => Ok(false),
@@ -454,7 +459,7 @@ pub fn type_form<P: Stop>(
 {
     let ty = infer(cx, locals, units, stop, Mode::Checked, y)?;
     let form = whnf(cx, locals, units, stop, true, &ty);
-    discard(ty);
+    drop(ty);
     form
 }
 
@@ -470,7 +475,8 @@ pub fn eta_at<P: Stop>(
     y: &Expr,
     form: &Expr,
 ) -> Result<bool, Halt>
-    ensures value { Runs (tower.eta_at (calls cx.entry.view.now cx.entry.depth) locals.old.items (own.built built.now) y.now form.now units.old) result units.new }
+    ensures value { Runs (tower.eta_at (calls cx.entry.view.now cx.entry.depth) locals.old.items (own.built built.now) y.now form.now units.old) result
+        units.new }
     ensures kept { locals.new.items ≡ locals.old.items }
     ensures count { P.stops stop.old ≤ P.stops stop.new }
     ensures rose { Rose result (P.stops stop.old) (P.stops stop.new) }
@@ -510,7 +516,7 @@ pub fn equal_fields<P: Stop>(
         [x, xs @ ..] => {
             let one = field(cx.alloc, units, name, place, y)?;
             let same = equal(cx, locals, units, stop, &one, x);
-            discard(one);
+            drop(one);
             if same? {
                 let Some(next) = place.checked_add(1) else {
                     return Err(Halt::NoMemory);
@@ -568,7 +574,8 @@ pub fn by_heads<P: Stop>(
     a: &Expr,
     b: &Expr,
 ) -> Result<Verdict, Halt>
-    ensures value { RunsAs values.verdict (tower.by_heads cx.entry.view.now (calls cx.entry.view.now cx.entry.depth) locals.old.items a.now b.now units.old) result units.new }
+    ensures value { RunsAs values.verdict (tower.by_heads cx.entry.view.now (calls cx.entry.view.now cx.entry.depth) locals.old.items a.now b.now units.old)
+        result units.new }
     ensures kept { locals.new.items ≡ locals.old.items }
     ensures count { P.stops stop.old ≤ P.stops stop.new }
     ensures rose { Rose result (P.stops stop.old) (P.stops stop.new) }
@@ -605,8 +612,8 @@ pub fn by_literals<P: Stop>(
         Verdict::Decided(same) => Ok(Verdict::Decided(same)),
         Verdict::Again(x, y) => {
             let same = equal(cx, locals, units, stop, &x, &y);
-            discard(x);
-            discard(y);
+            drop(x);
+            drop(y);
             Ok(Verdict::Decided(same?))
         }
         Verdict::Undecided => Ok(Verdict::Undecided),
@@ -661,8 +668,8 @@ pub fn equal_heads<P: Stop>(
         Verdict::Decided(same) => Ok(same),
         Verdict::Again(x, y) => {
             let same = equal(cx, locals, units, stop, &x, &y);
-            discard(x);
-            discard(y);
+            drop(x);
+            drop(y);
             same
         }
         Verdict::Undecided => Ok(false),

@@ -3,7 +3,7 @@ ghost use Rattle.std.specs.Prelude.{◌≡◌, ◌<◌, ◌-◌, ◌++◌, ◌�
 ghost use Rattle.lf_rules.specs.Environment.{with};
 ghost use Rattle.lf_check.specs.Front.{front};
 
-use lf_core::{Expr, NoMemory, discard};
+use lf_core::{Expr, NoMemory};
 use lf_env::View;
 use std::alloc::Global;
 
@@ -47,6 +47,6 @@ pub fn close(locals: &mut Vec<Expr>)
 {
     match locals.pop() {
         None => {}
-        Some(ty) => discard(ty),
+        Some(ty) => drop(ty),
     }
 }

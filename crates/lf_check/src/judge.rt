@@ -25,7 +25,7 @@ use crate::typing::{
 };
 use lf_base::Stop;
 use lf_checker::TypeFault;
-use lf_core::{Binder, Expr, ExprNode, Level, Name, discard};
+use lf_core::{Binder, Expr, ExprNode, Level, Name};
 use lf_steps::{Halt, abstracted, enter, instance, opening, put, refusal, under};
 
 /// The type of a term.
@@ -60,7 +60,8 @@ pub fn infer_form<P: Stop>(
     mode: Mode<'_>,
     term: &Expr,
 ) -> Result<Expr, Halt>
-    ensures value { Runs (infer.infer_body cx.entry.view.now (calls cx.entry.view.now cx.entry.depth) (own.mode mode.entry) locals.old.items term.now units.old) result units.new }
+    ensures value { Runs (infer.infer_body cx.entry.view.now (calls cx.entry.view.now cx.entry.depth) (own.mode mode.entry) locals.old.items term.now
+        units.old) result units.new }
     ensures kept { locals.new.items ≡ locals.old.items }
     ensures count { P.stops stop.old ≤ P.stops stop.new }
     ensures rose { Rose result (P.stops stop.old) (P.stops stop.new) }
@@ -119,7 +120,8 @@ pub fn infer_application<P: Stop>(
     f: &Expr,
     a: &Expr,
 ) -> Result<Expr, Halt>
-    ensures value { Runs (bodies.application (calls cx.entry.view.now cx.entry.depth) (own.mode mode.entry) locals.old.items f.now a.now units.old) result units.new }
+    ensures value { Runs (bodies.application (calls cx.entry.view.now cx.entry.depth) (own.mode mode.entry) locals.old.items f.now a.now units.old) result
+        units.new }
     ensures kept { locals.new.items ≡ locals.old.items }
     ensures count { P.stops stop.old ≤ P.stops stop.new }
     ensures rose { Rose result (P.stops stop.old) (P.stops stop.new) }
@@ -146,7 +148,8 @@ pub fn fits<P: Stop>(
     a: &Expr,
     wanted: &Expr,
 ) -> Result<(), Halt>
-    ensures value { Runs (infer.argument_fits (calls cx.entry.view.now cx.entry.depth) (own.mode mode.entry) locals.old.items a.now wanted.now units.old) result units.new }
+    ensures value { Runs (infer.argument_fits (calls cx.entry.view.now cx.entry.depth) (own.mode mode.entry) locals.old.items a.now wanted.now units.old)
+        result units.new }
     ensures kept { locals.new.items ≡ locals.old.items }
     ensures count { P.stops stop.old ≤ P.stops stop.new }
     ensures rose { Rose result (P.stops stop.old) (P.stops stop.new) }
@@ -156,7 +159,7 @@ pub fn fits<P: Stop>(
             let has = infer(cx, locals, units, stop, Mode::Checked, a)?;
             let same = equal(cx, locals, units, stop, &has, wanted)?;
             let fits = argument_fits(cx.alloc, units, same, &has, wanted);
-            discard(has);
+            drop(has);
             fits
         }
         Mode::Unchecked(_) => Ok(()),
@@ -181,8 +184,8 @@ pub fn sort_of<P: Stop>(
 {
     let (has, form) = formed(cx, locals, units, stop, mode, ty)?;
     let level = on_sort(cx.alloc, units, &has, &form);
-    discard(has);
-    discard(form);
+    drop(has);
+    drop(form);
     level
 }
 
@@ -224,7 +227,8 @@ pub fn infer_lambda<P: Stop>(
     ty: &Expr,
     body: &Expr,
 ) -> Result<Expr, Halt>
-    ensures value { Runs (bodies.lambda (calls cx.entry.view.now cx.entry.depth) (own.mode mode.entry) locals.old.items x.now ty.now body.now units.old) result units.new }
+    ensures value { Runs (bodies.lambda (calls cx.entry.view.now cx.entry.depth) (own.mode mode.entry) locals.old.items x.now ty.now body.now units.old)
+        result units.new }
     ensures kept { locals.new.items ≡ locals.old.items }
     ensures count { P.stops stop.old ≤ P.stops stop.new }
     ensures rose { Rose result (P.stops stop.old) (P.stops stop.new) }
@@ -235,10 +239,10 @@ pub fn infer_lambda<P: Stop>(
     open(cx.alloc, locals, ty)?;
     let inner = infer(cx, locals, units, stop, mode, &opened);
     close(locals);
-    discard(opened);
+    drop(opened);
     let codomain = under(cx.alloc, &x.name, inner)?;
     let closed = abstracted(cx.alloc, units, &codomain, place);
-    discard(codomain);
+    drop(codomain);
     let closed = closed?;
     put(
         units,
@@ -259,7 +263,8 @@ pub fn infer_pi<P: Stop>(
     ty: &Expr,
     body: &Expr,
 ) -> Result<Expr, Halt>
-    ensures value { Runs (bodies.pi_type (calls cx.entry.view.now cx.entry.depth) (own.mode mode.entry) locals.old.items x.now ty.now body.now units.old) result units.new }
+    ensures value { Runs (bodies.pi_type (calls cx.entry.view.now cx.entry.depth) (own.mode mode.entry) locals.old.items x.now ty.now body.now units.old)
+        result units.new }
     ensures kept { locals.new.items ≡ locals.old.items }
     ensures count { P.stops stop.old ≤ P.stops stop.new }
     ensures rose { Rose result (P.stops stop.old) (P.stops stop.new) }
@@ -269,7 +274,7 @@ pub fn infer_pi<P: Stop>(
     open(cx.alloc, locals, ty)?;
     let inner = sort_of(cx, locals, units, stop, mode, &opened);
     close(locals);
-    discard(opened);
+    drop(opened);
     let codomain = under(cx.alloc, &x.name, inner)?;
     of_pi(cx.alloc, units, domain, codomain)
 }
@@ -287,7 +292,8 @@ pub fn infer_let<P: Stop>(
     value: &Expr,
     body: &Expr,
 ) -> Result<Expr, Halt>
-    ensures value { Runs (bodies.let_type (calls cx.entry.view.now cx.entry.depth) (own.mode mode.entry) locals.old.items ty.now value.now body.now units.old) result units.new }
+    ensures value { Runs (bodies.let_type (calls cx.entry.view.now cx.entry.depth) (own.mode mode.entry) locals.old.items ty.now value.now body.now units.old)
+        result units.new }
     ensures kept { locals.new.items ≡ locals.old.items }
     ensures count { P.stops stop.old ≤ P.stops stop.new }
     ensures rose { Rose result (P.stops stop.old) (P.stops stop.new) }
@@ -295,7 +301,7 @@ pub fn infer_let<P: Stop>(
     has_type(cx, locals, units, stop, mode, value, ty)?;
     let term = instance(cx.alloc, units, body, value)?;
     let ty = infer(cx, locals, units, stop, mode, &term);
-    discard(term);
+    drop(term);
     ty
 }
 
@@ -311,7 +317,8 @@ pub fn has_type<P: Stop>(
     value: &Expr,
     ty: &Expr,
 ) -> Result<(), Halt>
-    ensures value { Runs (infer.value_fits (calls cx.entry.view.now cx.entry.depth) (own.mode mode.entry) locals.old.items value.now ty.now units.old) result units.new }
+    ensures value { Runs (infer.value_fits (calls cx.entry.view.now cx.entry.depth) (own.mode mode.entry) locals.old.items value.now ty.now units.old) result
+        units.new }
     ensures kept { locals.new.items ≡ locals.old.items }
     ensures count { P.stops stop.old ≤ P.stops stop.new }
     ensures rose { Rose result (P.stops stop.old) (P.stops stop.new) }
@@ -322,7 +329,7 @@ pub fn has_type<P: Stop>(
             let has = infer(cx, locals, units, stop, Mode::Checked, value)?;
             let same = equal(cx, locals, units, stop, &has, ty)?;
             let fits = value_fits(cx.alloc, units, same, &has, ty);
-            discard(has);
+            drop(has);
             fits
         }
         Mode::Unchecked(_) => Ok(()),
@@ -342,14 +349,15 @@ pub fn infer_projection<P: Stop>(
     place: u32,
     term: &Expr,
 ) -> Result<Expr, Halt>
-    ensures value { Runs (bodies.projection cx.entry.view.now (calls cx.entry.view.now cx.entry.depth) (own.mode mode.entry) locals.old.items name.now place term.now units.old) result units.new }
+    ensures value { Runs (bodies.projection cx.entry.view.now (calls cx.entry.view.now cx.entry.depth) (own.mode mode.entry) locals.old.items name.now place
+        term.now units.old) result units.new }
     ensures kept { locals.new.items ≡ locals.old.items }
     ensures count { P.stops stop.old ≤ P.stops stop.new }
     ensures rose { Rose result (P.stops stop.old) (P.stops stop.new) }
 {
     let (has, form) = formed(cx, locals, units, stop, mode, term)?;
     let ty = on_structure(cx.alloc, cx.view, units, &has, name, place, term, &form);
-    discard(has);
-    discard(form);
+    drop(has);
+    drop(form);
     ty
 }

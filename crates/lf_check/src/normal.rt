@@ -9,7 +9,7 @@ use crate::cx::{Cx, close, open};
 use crate::reduce::whnf;
 use crate::turn::as_literal;
 use lf_base::Stop;
-use lf_core::{Binder, Expr, ExprNode, discard};
+use lf_core::{Binder, Expr, ExprNode};
 use lf_steps::{Halt, abstracted, apply, arguments, enter, head, opening, put};
 
 /// The normal form.
@@ -49,7 +49,7 @@ fn normalize_form<P: Stop>(
 {
     let form = whnf(cx, locals, units, stop, true, term)?;
     let term = normalize_parts(cx, locals, units, stop, &form);
-    discard(form);
+    drop(form);
     term
 }
 
@@ -96,7 +96,8 @@ fn normalize_inside<P: Stop>(
     ty: &Expr,
     body: &Expr,
 ) -> Result<Expr, Halt>
-    ensures value { Runs (normal.normalize_body_of_binder (calls cx.entry.view.now cx.entry.depth) locals.old.items ty.now body.now units.old) result units.new }
+    ensures value { Runs (normal.normalize_body_of_binder (calls cx.entry.view.now cx.entry.depth) locals.old.items ty.now body.now units.old) result
+        units.new }
     ensures kept { locals.new.items ≡ locals.old.items }
     ensures count { P.stops stop.old ≤ P.stops stop.new }
     ensures rose { Rose result (P.stops stop.old) (P.stops stop.new) }
@@ -106,10 +107,10 @@ fn normalize_inside<P: Stop>(
     open(cx.alloc, locals, ty)?;
     let inner = normalize(cx, locals, units, stop, &opened);
     close(locals);
-    discard(opened);
+    drop(opened);
     let inner = inner?;
     let closed = abstracted(cx.alloc, units, &inner, place);
-    discard(inner);
+    drop(inner);
     closed
 }
 
@@ -146,7 +147,8 @@ fn normalize_all<P: Stop>(
     xs: &[Expr],
     ready: Vec<Expr>,
 ) -> Result<Vec<Expr>, Halt>
-    ensures value { RunsAs (λ v. v.items) (bodies.normalize_into (calls cx.entry.view.now cx.entry.depth) locals.old.items ready.items xs.now units.old) result units.new }
+    ensures value { RunsAs (λ v. v.items) (bodies.normalize_into (calls cx.entry.view.now cx.entry.depth) locals.old.items ready.items xs.now units.old)
+        result units.new }
     ensures kept { locals.new.items ≡ locals.old.items }
     ensures count { P.stops stop.old ≤ P.stops stop.new }
     ensures rose { Rose result (P.stops stop.old) (P.stops stop.new) }

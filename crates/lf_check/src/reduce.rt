@@ -21,7 +21,7 @@ use crate::mode::Mode;
 use crate::step::{Step, head_step};
 use crate::turn::{constructor_at, on_numbers, projected};
 use lf_base::Stop;
-use lf_core::{ConstInfo, Expr, Level, Name, discard};
+use lf_core::{ConstInfo, Expr, Level, Name};
 use lf_steps::{
     Halt, Progress, Recursor, Seen, Split, attempt, constructor_of, enter, fieldless, fire, need,
     out, see, split_spine,
@@ -59,7 +59,8 @@ pub fn whnf_loop<P: Stop>(
     delta: bool,
     term: &Expr,
 ) -> Result<Expr, Halt>
-    ensures value { Runs (tower.whnf_body cx.entry.view.now (calls cx.entry.view.now cx.entry.depth) delta locals.old.items term.now units.old) result units.new }
+    ensures value { Runs (tower.whnf_body cx.entry.view.now (calls cx.entry.view.now cx.entry.depth) delta locals.old.items term.now units.old) result
+        units.new }
     ensures kept { locals.new.items ≡ locals.old.items }
     ensures count { P.stops stop.old ≤ P.stops stop.new }
     ensures rose { Rose result (P.stops stop.old) (P.stops stop.new) }
@@ -70,17 +71,17 @@ pub fn whnf_loop<P: Stop>(
         match whnf_turn(cx, locals, units, stop, delta, &current)? {
             Progress::Stays => return Ok(current),
             Progress::Ends(last) => {
-                discard(current);
+                drop(current);
                 return Ok(last);
             }
             Progress::Next(next) => {
-                discard(current);
+                drop(current);
                 current = next;
             }
         }
         left -= 1;
     }
-    discard(current);
+    drop(current);
     Err(out(units))
 }
 
@@ -95,7 +96,8 @@ pub fn whnf_turn<P: Stop>(
     delta: bool,
     term: &Expr,
 ) -> Result<Progress, Halt>
-    ensures value { RunsAs values.progress (tower.whnf_turn cx.entry.view.now (calls cx.entry.view.now cx.entry.depth) delta locals.old.items term.now units.old) result units.new }
+    ensures value { RunsAs values.progress (tower.whnf_turn cx.entry.view.now (calls cx.entry.view.now cx.entry.depth) delta locals.old.items term.now
+        units.old) result units.new }
     ensures kept { locals.new.items ≡ locals.old.items }
     ensures count { P.stops stop.old ≤ P.stops stop.new }
     ensures rose { Rose result (P.stops stop.old) (P.stops stop.new) }
@@ -137,14 +139,15 @@ pub fn projection<P: Stop>(
     inner: &Expr,
     arguments: &[Expr],
 ) -> Result<Progress, Halt>
-    ensures value { RunsAs values.progress (tower.projection cx.entry.view.now (calls cx.entry.view.now cx.entry.depth) locals.old.items structure.now place inner.now arguments.now units.old) result units.new }
+    ensures value { RunsAs values.progress (tower.projection cx.entry.view.now (calls cx.entry.view.now cx.entry.depth) locals.old.items structure.now place
+        inner.now arguments.now units.old) result units.new }
     ensures kept { locals.new.items ≡ locals.old.items }
     ensures count { P.stops stop.old ≤ P.stops stop.new }
     ensures rose { Rose result (P.stops stop.old) (P.stops stop.new) }
 {
     let form = whnf(cx, locals, units, stop, true, inner)?;
     let turned = projected(cx.alloc, cx.view, units, structure, place, &form, arguments);
-    discard(form);
+    drop(form);
     turned
 }
 
@@ -161,7 +164,8 @@ pub fn operands<P: Stop>(
     x: Expr,
     y: Expr,
 ) -> Result<Progress, Halt>
-    ensures value { RunsAs values.progress (tower.operands cx.entry.view.now (calls cx.entry.view.now cx.entry.depth) delta locals.old.items name.now x y units.old) result units.new }
+    ensures value { RunsAs values.progress (tower.operands cx.entry.view.now (calls cx.entry.view.now cx.entry.depth) delta locals.old.items name.now x y
+        units.old) result units.new }
     ensures kept { locals.new.items ≡ locals.old.items }
     ensures count { P.stops stop.old ≤ P.stops stop.new }
     ensures rose { Rose result (P.stops stop.old) (P.stops stop.new) }
@@ -169,8 +173,8 @@ pub fn operands<P: Stop>(
     let a = whnf(cx, locals, units, stop, true, &x)?;
     let b = whnf(cx, locals, units, stop, true, &y)?;
     let turned = on_numbers(cx.alloc, cx.view, units, delta, name, &a, &b, x, y);
-    discard(a);
-    discard(b);
+    drop(a);
+    drop(b);
     turned
 }
 
@@ -186,7 +190,8 @@ pub fn recursor_turn<P: Stop>(
     recursor: Recursor<'_>,
     split: Split<'_>,
 ) -> Result<Progress, Halt>
-    ensures value { RunsAs values.progress (tower.at_seen cx.entry.view.now (calls cx.entry.view.now cx.entry.depth) locals.old.items levels.now (values.recursor recursor.entry) (values.split split.entry) (spec_see cx.entry.view.now recursor.entry.ind.now) units.old) result units.new }
+    ensures value { RunsAs values.progress (tower.at_seen cx.entry.view.now (calls cx.entry.view.now cx.entry.depth) locals.old.items levels.now
+        (values.recursor recursor.entry) (values.split split.entry) (spec_see cx.entry.view.now recursor.entry.ind.now) units.old) result units.new }
     ensures kept { locals.new.items ≡ locals.old.items }
     ensures count { P.stops stop.old ≤ P.stops stop.new }
     ensures rose { Rose result (P.stops stop.old) (P.stops stop.new) }
@@ -211,7 +216,8 @@ pub fn at_type<P: Stop>(
     split: Split<'_>,
     info: &ConstInfo,
 ) -> Result<Progress, Halt>
-    ensures value { RunsAs values.progress (tower.at_type cx.entry.view.now (calls cx.entry.view.now cx.entry.depth) locals.old.items levels.now (values.recursor recursor.entry) (values.split split.entry) (shape_of info.now) units.old) result units.new }
+    ensures value { RunsAs values.progress (tower.at_type cx.entry.view.now (calls cx.entry.view.now cx.entry.depth) locals.old.items levels.now
+        (values.recursor recursor.entry) (values.split split.entry) (shape_of info.now) units.old) result units.new }
     ensures kept { locals.new.items ≡ locals.old.items }
     ensures count { P.stops stop.old ≤ P.stops stop.new }
     ensures rose { Rose result (P.stops stop.old) (P.stops stop.new) }
@@ -219,7 +225,7 @@ pub fn at_type<P: Stop>(
     let form = whnf(cx, locals, units, stop, true, split.major)?;
     let built = constructor_of(cx.alloc, &form)?;
     let turned = fire(cx.alloc, cx.view, units, recursor, levels, split, &built)?;
-    discard(built);
+    drop(built);
     match turned {
         Progress::Stays => like_k(cx, locals, units, stop, levels, recursor, split, form, info),
         Progress::Next(term) => Ok(Progress::Next(term)),
@@ -241,7 +247,8 @@ pub fn like_k<P: Stop>(
     form: Expr,
     info: &ConstInfo,
 ) -> Result<Progress, Halt>
-    ensures value { RunsAs values.progress (tower.like_k cx.entry.view.now (calls cx.entry.view.now cx.entry.depth) locals.old.items levels.now (values.recursor recursor.entry) (values.split split.entry) form (shape_of info.now) units.old) result units.new }
+    ensures value { RunsAs values.progress (tower.like_k cx.entry.view.now (calls cx.entry.view.now cx.entry.depth) locals.old.items levels.now
+        (values.recursor recursor.entry) (values.split split.entry) form (shape_of info.now) units.old) result units.new }
     ensures kept { locals.new.items ≡ locals.old.items }
     ensures count { P.stops stop.old ≤ P.stops stop.new }
     ensures rose { Rose result (P.stops stop.old) (P.stops stop.new) }
@@ -251,11 +258,11 @@ pub fn like_k<P: Stop>(
             let turned = put_in(
                 cx, locals, units, stop, levels, recursor, split, &form, name,
             );
-            discard(form);
+            drop(form);
             turned
         }
         None => {
-            discard(form);
+            drop(form);
             Ok(Progress::Stays)
         }
     }
@@ -275,7 +282,8 @@ pub fn put_in<P: Stop>(
     form: &Expr,
     name: &Name,
 ) -> Result<Progress, Halt>
-    ensures value { RunsAs values.progress (tower.put_in cx.entry.view.now (calls cx.entry.view.now cx.entry.depth) locals.old.items levels.now (values.recursor recursor.entry) (values.split split.entry) form.now name.now units.old) result units.new }
+    ensures value { RunsAs values.progress (tower.put_in cx.entry.view.now (calls cx.entry.view.now cx.entry.depth) locals.old.items levels.now
+        (values.recursor recursor.entry) (values.split split.entry) form.now name.now units.old) result units.new }
     ensures kept { locals.new.items ≡ locals.old.items }
     ensures count { P.stops stop.old ≤ P.stops stop.new }
     ensures rose { Rose result (P.stops stop.old) (P.stops stop.new) }
@@ -285,10 +293,10 @@ pub fn put_in<P: Stop>(
     let same = attempt(same)?;
     if same == Some(true) {
         let turned = fire(cx.alloc, cx.view, units, recursor, levels, split, &built);
-        discard(built);
+        drop(built);
         turned
     } else {
-        discard(built);
+        drop(built);
         Ok(Progress::Stays)
     }
 }
@@ -312,7 +320,7 @@ pub fn same_type<P: Stop>(
     let left = infer(cx, locals, units, stop, Mode::Checked, a)?;
     let right = infer(cx, locals, units, stop, Mode::Checked, b)?;
     let same = equal(cx, locals, units, stop, &left, &right);
-    discard(left);
-    discard(right);
+    drop(left);
+    drop(right);
     same
 }

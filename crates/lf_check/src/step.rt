@@ -66,7 +66,8 @@ fn one_argument<'a>(
 ) -> Result<Step<'a>, Halt>
     requires found { lookup_of view.now name.now ≡ found info.now }
     requires one { arguments.now ≡ argument.now ∷ [] }
-    ensures value { RunsAs own.step (steps.literal_step name.now [] (argument.now ∷ []) (spec_delta view.now delta name.now [] (argument.now ∷ [])) units.old) result units.new }
+    ensures value { RunsAs own.step (steps.literal_step name.now [] (argument.now ∷ []) (spec_delta view.now delta name.now [] (argument.now ∷ [])) units.old)
+        result units.new }
     ensures calm { Calm result }
 {
     match argument.node() {
@@ -97,7 +98,8 @@ fn two_arguments<'a>(
 ) -> Result<Step<'a>, Halt>
     requires found { lookup_of view.now name.now ≡ found info.now }
     requires two { arguments.now ≡ x.now ∷ y.now ∷ [] }
-    ensures value { RunsAs own.step (steps.literal_step name.now [] (x.now ∷ y.now ∷ []) (spec_delta view.now delta name.now [] (x.now ∷ y.now ∷ [])) units.old) result units.new }
+    ensures value { RunsAs own.step (steps.literal_step name.now [] (x.now ∷ y.now ∷ []) (spec_delta view.now delta name.now [] (x.now ∷ y.now ∷ []))
+        units.old) result units.new }
     ensures calm { Calm result }
 {
     if operation(name).is_some() {
@@ -118,7 +120,8 @@ fn literal_step<'a>(
     arguments: &[Expr],
 ) -> Result<Step<'a>, Halt>
     requires found { lookup_of view.now name.now ≡ found info.now }
-    ensures value { RunsAs own.step (steps.literal_step name.now levels.now arguments.now (spec_delta view.now delta name.now levels.now arguments.now) units.old) result units.new }
+    ensures value { RunsAs own.step (steps.literal_step name.now levels.now arguments.now (spec_delta view.now delta name.now levels.now arguments.now)
+        units.old) result units.new }
     ensures calm { Calm result }
 {
     match levels {
@@ -179,7 +182,8 @@ fn constant_step<'a>(
     levels: &'a [Level],
     arguments: Vec<Expr>,
 ) -> Result<Step<'a>, Halt>
-    ensures value { RunsAs own.step (steps.constant_step view.now delta name.now levels.now arguments.items (spec_see view.now name.now) units.old) result units.new }
+    ensures value { RunsAs own.step (steps.constant_step view.now delta name.now levels.now arguments.items (spec_see view.now name.now) units.old) result
+        units.new }
     ensures calm { Calm result }
 {
     match see(alloc, view, name)? {

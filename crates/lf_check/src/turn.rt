@@ -12,7 +12,7 @@ ghost use Rattle.lf_check.specs.Steps as steps;
 ghost use Rattle.lf_check.specs.Tower as tower;
 ghost use Rattle.std.specs.Option.{option_copied};
 
-use lf_core::{Expr, ExprNode, Level, LitOut, Name, NoMemory, copy_levels, discard};
+use lf_core::{Expr, ExprNode, Level, LitOut, Name, NoMemory, copy_levels};
 use lf_env::View;
 use lf_lit::{apply as compute, operation};
 use lf_steps::{
@@ -67,7 +67,8 @@ pub fn on_numbers(
     x: Expr,
     y: Expr,
 ) -> Result<Progress, Halt>
-    ensures value { RunsAs values.progress (whnf.on_numbers name.now (whnf.as_number a.now) (whnf.as_number b.now) (whnf.delta_turn view.now delta name.now [] (x ∷ y ∷ [])) units.old) result units.new }
+    ensures value { RunsAs values.progress (whnf.on_numbers name.now (whnf.as_number a.now) (whnf.as_number b.now)
+        (whnf.delta_turn view.now delta name.now [] (x ∷ y ∷ [])) units.old) result units.new }
     ensures calm { Calm result }
 {
     match computed(name, a, b) {
@@ -161,7 +162,8 @@ pub fn constructor_at(
     recursor: Recursor<'_>,
     split: Split<'_>,
 ) -> Result<Expr, Halt>
-    ensures value { Runs (run.put (spine.apply (const name.now (drop 1 levels.now)) (take recursor.entry.params split.entry.before.now)) units.old) result units.new }
+    ensures value { Runs (run.put (spine.apply (const name.now (drop 1 levels.now)) (take recursor.entry.params split.entry.before.now)) units.old) result
+        units.new }
     ensures calm { Calm result }
 {
     let levels = own_levels(alloc, levels)?;
@@ -205,7 +207,7 @@ pub fn as_literal(alloc: Global, term: Expr) -> Result<Expr, NoMemory>
 {
     match literal_of(&term) {
         Some(number) => {
-            discard(term);
+            drop(term);
             Expr::lit(alloc, number)
         }
         None => Ok(term),

@@ -16,7 +16,7 @@ ghost use Rattle.lf_check.specs.Values as own;
 
 use crate::mode::Mode;
 use lf_checker::TypeFault;
-use lf_core::{Expr, ExprNode, Level, Name, NoMemory, discard};
+use lf_core::{Expr, ExprNode, Level, Name, NoMemory};
 use lf_env::View;
 use lf_steps::{
     Halt, Seen, Structure, arguments, at_levels, head, instance, need, put, refusal, see,
@@ -228,7 +228,7 @@ fn domain_at(
             Some(body) => {
                 let ty = instance(alloc, units, body, y)?;
                 let domain = domain_at(alloc, units, has, &ty, rest);
-                discard(ty);
+                drop(ty);
                 domain
             }
             None => no_structure(alloc, units, has),
@@ -276,14 +276,15 @@ fn of_structure(
     params: Vec<Expr>,
     structure: Structure<'_>,
 ) -> Result<Expr, Halt>
-    ensures value { Runs (spec.of_structure has.now name.now place term.now levels.now params.items (Some (values.structure structure.entry)) units.old) result units.new }
+    ensures value { Runs (spec.of_structure has.now name.now place term.now levels.now params.items (Some (values.structure structure.entry)) units.old)
+        result units.new }
     ensures calm { Calm result }
 {
     if fits(structure, levels, params.as_slice(), place) {
         let ty = at_levels(alloc, units, levels, structure.ty)?;
         let all = with_projections(alloc, params, name, place, term)?;
         let domain = domain_at(alloc, units, has, &ty, all.as_slice());
-        discard(ty);
+        drop(ty);
         domain
     } else {
         no_structure(alloc, units, has)
@@ -323,7 +324,8 @@ fn at_constant(
     levels: &[Level],
     form: &Expr,
 ) -> Result<Expr, Halt>
-    ensures value { Runs (forms.at_constant view.now has.now name.now place term.now constant.now levels.now (spine.arguments_of form.now) units.old) result units.new }
+    ensures value { Runs (forms.at_constant view.now has.now name.now place term.now constant.now levels.now (spine.arguments_of form.now) units.old) result
+        units.new }
     ensures calm { Calm result }
 {
     if constant.is(name) {
@@ -345,7 +347,8 @@ pub fn on_structure(
     term: &Expr,
     form: &Expr,
 ) -> Result<Expr, Halt>
-    ensures value { Runs (spec.on_structure view.now has.now name.now place term.now (spine.head_of form.now) (spine.arguments_of form.now) units.old) result units.new }
+    ensures value { Runs (spec.on_structure view.now has.now name.now place term.now (spine.head_of form.now) (spine.arguments_of form.now) units.old) result
+        units.new }
     ensures calm { Calm result }
 {
     match head(form).node() {

@@ -1,6 +1,27 @@
 -- Structures as the checker sees them: what a view tells of the type and of its constructor.
 use Rattle.std.specs.Prelude.{ℕ, zero, suc, ◌+◌, Bool, true, false, not, ◌&&◌, ◌||◌, nat_eq, if◌then◌else◌, Option, Some, None, List, [], ◌∷◌, length}
-use Rattle.lf_core.specs.Term.{Path, Universe, level_succ, Term, bound, free, meta, sort, const, app, lam, pi, letin, lit, proj}
+use Rattle.lf_core.specs.Term.{
+  Path,
+  Universe,
+  level_zero,
+  level_succ,
+  level_max,
+  level_imax,
+  level_param,
+  level_meta,
+  Term,
+  bound,
+  free,
+  meta,
+  sort,
+  const,
+  app,
+  lam,
+  pi,
+  letin,
+  lit,
+  proj,
+}
 use Rattle.lf_core.specs.Same.{same_path}
 use Rattle.lf_rules.specs.Structure.{result_level}
 use Rattle.lf_core.specs.declared.constant.Detail.{Detail}
@@ -41,7 +62,12 @@ pub record Structure : Type 0 where
 
 abbrev pub is_successor : Option Universe → Bool
 is_successor (Some (level_succ l)) = true
-is_successor _ = false
+is_successor (Some level_zero) = false
+is_successor (Some (level_max l m)) = false
+is_successor (Some (level_imax l m)) = false
+is_successor (Some (level_param k)) = false
+is_successor (Some (level_meta k)) = false
+is_successor None = false
 
 abbrev pub by_constructor : Path → ℕ → ℕ → Path → Term → Detail → Option Structure
 by_constructor S levels params n ty (Ctor ind index own fields) =

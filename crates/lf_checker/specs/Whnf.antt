@@ -34,7 +34,7 @@ use Rattle.lf_core.specs.declared.literal.LitOut.{LitOut}
 use Rattle.lf_rules.specs.Step.{literal_term, by_rule}
 use Rattle.lf_rules.specs.Structure.{result_level}
 use Rattle.lf_core.specs.declared.constant.Detail.{Detail}
-use Rattle.lf_core.specs.declared.constant.Detail.TheVariants.{Ind, Ctor, Rec}
+use Rattle.lf_core.specs.declared.constant.Detail.TheVariants.{Plain, Ind, Ctor, Rec}
 use Rattle.lf_checker.specs.View.{View, KnownBody, value, opaque, unresolved, body_of}
 use Rattle.lf_checker.specs.Extends.{Shape}
 use Rattle.lf_checker.specs.LevelTest.{is_same}
@@ -111,7 +111,8 @@ fire V r ls s m = fire_head V r ls s (head_of m) (arguments_of m)
 
 abbrev pub is_true : Option Bool → Bool
 is_true (Some true) = true
-is_true _ = false
+is_true (Some false) = false
+is_true None = false
 
 -- The constructor without fields takes the place of a major premise that has its type.
 abbrev pub put_in : View → Calls → Context → List Universe → Recursor → Split → Term → Path → Run Progress
@@ -126,7 +127,9 @@ put_in V c C ls r s w n = do
 -- A constructor of the recursor's type that has its parameters and no fields.
 abbrev pub is_fieldless : Recursor → Detail → Bool
 is_fieldless r (Ctor ind index own fields) = same_path ind r.ind && (nat_eq own r.params && nat_eq fields 0)
-is_fieldless r _ = false
+is_fieldless r Plain = false
+is_fieldless r (Ind params indices names large) = false
+is_fieldless r (Rec ind params minors indices rules) = false
 
 abbrev pub put_in_seen : View → Calls → Context → List Universe → Recursor → Split → Term → Path → Seen → Run Progress
 put_in_seen V c C ls r s w n (known d) = choose (is_fieldless r d.detail) (put_in V c C ls r s w n) (gives stays)

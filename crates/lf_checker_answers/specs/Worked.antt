@@ -437,9 +437,11 @@ pub record Answers : Type 0 where
   pub greatest_successor : whnf V 512 [] (app nat_succ (lit 340282366920938463463374607431768211454)) 1 ≡ done (lit 340282366920938463463374607431768211455) 0
   pub greatest_normal : given (normalize V 512 [] (app nat_succ (next_of (lit 340282366920938463463374607431768211453))) 100) ≡ Some
       (lit 340282366920938463463374607431768211455)
-  pub greatest_left : given (equal V 512 [] (lit 340282366920938463463374607431768211455) (app nat_succ (next_of (lit 340282366920938463463374607431768211453))) 1000)
+  pub greatest_left : given (equal V 512 [] (lit 340282366920938463463374607431768211455)
+      (app nat_succ (next_of (lit 340282366920938463463374607431768211453))) 1000)
       ≡ Some true
-  pub greatest_right : given (equal V 512 [] (app nat_succ (next_of (lit 340282366920938463463374607431768211453))) (lit 340282366920938463463374607431768211455) 1000)
+  pub greatest_right : given (equal V 512 [] (app nat_succ (next_of (lit 340282366920938463463374607431768211453)))
+      (lit 340282366920938463463374607431768211455) 1000)
       ≡ Some true
   -- 0 and `Nat.zero`, both ways; a literal and a definition, both ways
   pub zero_left : given (equal V 512 [] (lit 0) nat_zero 100) ≡ Some true

@@ -7,7 +7,7 @@ use Rattle.lf_core.specs.Literal.{literal_operation}
 use Rattle.lf_rules.specs.Judgment.{Equal, HasType, Formed}
 use Rattle.lf_core.specs.declared.constant.ConstInfo.{ConstInfo}
 use Rattle.lf_core.specs.declared.constant.Detail.{Detail}
-use Rattle.lf_core.specs.declared.constant.Detail.TheVariants.{Ind, Ctor, Rec}
+use Rattle.lf_core.specs.declared.constant.Detail.TheVariants.{Plain, Ind, Ctor, Rec}
 use Rattle.lf_core.specs.declared.literal.LitOut.{LitOut}
 use Rattle.lf_core.specs.declared.literal.LitOut.TheVariants.{Nat, Bool}
 use Rattle.lf_judgment_laws.specs.InScope.{EnvironmentClosed}
@@ -72,7 +72,9 @@ PartsHeld V E levels (Rec ind params minors indices rules) =
     Held V E ind
     × ((n : Path) (c : ConstInfo) (index own fields : ℕ) → lookup_of V n ≡ found c → c.detail ≡ Ctor ind index own fields → Contains E c)
     × ((k : ℕ) (r : Term) → slice_get rules k ≡ Some r → Names V E levels r)
-PartsHeld V E levels _ = Unit {0}
+PartsHeld V E levels Plain = Unit {0}
+PartsHeld V E levels (Ind params indices names large) = Unit {0}
+PartsHeld V E levels (Ctor ind index own fields) = Unit {0}
 
 -- A list of constants that names nothing of the view outside it, each at its own levels, and in which constructors' types are as admission has them.
 pub record ClosedList (V : View) (E : Environment) : Type 0 where

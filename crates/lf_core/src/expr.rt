@@ -3,7 +3,16 @@ ghost use Rattle.std.specs.Prelude.{◌≡◌, ◌↔◌, IsTrue, false, IfOk, I
 ghost use Rattle.lf_core.specs.Term.{bound, free, meta, sort, const, app, lam, pi, letin, lit, proj};
 ghost use Rattle.lf_core.specs.Scope.{Scoped};
 ghost use Rattle.lf_core.specs.Size as size;
-ghost use Rattle.lf_core.specs.Summary.{OfTerm, loose_bound, free_bound, has_metavariable, has_level_metavariable, has_parameter, levels_have_metavariable, levels_have_parameter};
+ghost use Rattle.lf_core.specs.Summary.{
+  OfTerm,
+  loose_bound,
+  free_bound,
+  has_metavariable,
+  has_level_metavariable,
+  has_parameter,
+  levels_have_metavariable,
+  levels_have_parameter,
+};
 ghost use Rattle.lf_core.specs.Same.{same, same_universes};
 ghost use Rattle.lf_core.specs.ExprNode.{term_of};
 
@@ -70,11 +79,6 @@ impl Model for Expr {
 
     ghost size = { node_count };
 }
-
-/// Lets a term go, so that no caller's proof follows its parts.
-pub fn discard(_term: Expr) {}
-
-fn discard_node(_node: ExprNode) {}
 
 /// A list equal to `levels`.
 pub fn copy_levels(alloc: Global, levels: &[Level]) -> Result<Items<Level>, NoMemory>
@@ -251,7 +255,7 @@ impl Expr {
                 kept: Arc::new(alloc, KeptTerm { node, summary })?,
             }),
             None => {
-                discard_node(node);
+                drop(node);
                 Err(NoMemory)
             }
         }

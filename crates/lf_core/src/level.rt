@@ -61,11 +61,6 @@ impl Model for Level {
     ghost size = { level_node_count };
 }
 
-/// Lets a level go, so that no caller's proof follows its parts.
-pub fn discard_level(_level: Level) {}
-
-fn discard_node(_node: LevelNode) {}
-
 // What is kept beside this form.
 fn summarize(node: &LevelNode) -> Option<LevelSummary>
     ensures { IfSome result (λ s. OfLevel s (universe_of node.now)) }
@@ -121,7 +116,7 @@ impl Level {
                 kept: Arc::new(alloc, KeptLevel { node, summary })?,
             }),
             None => {
-                discard_node(node);
+                drop(node);
                 Err(NoMemory)
             }
         }

@@ -11,8 +11,8 @@ mod summary;
 pub use constant::{
     Ans, ConstInfo, ConstKind, CtorInfo, Detail, IndDecl, TaskKey, copy_names, copy_terms,
 };
-pub use expr::{Expr, ExprNode, copy_levels, discard, levels_count, levels_longest, same_levels};
-pub use level::{Level, LevelNode, discard_level};
+pub use expr::{Expr, ExprNode, copy_levels, levels_count, levels_longest, same_levels};
+pub use level::{Level, LevelNode};
 pub use lf_base::NoMemory;
 pub use lf_name::{Binder, BinderKind, Name, Word, same_parts};
 pub use literal::{LitOut, Operation};

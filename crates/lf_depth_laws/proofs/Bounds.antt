@@ -1,16 +1,116 @@
 -- How high the tree of each symbol is at most, by the number where it begins and a bound of the numbers.
-use Rattle.std.proofs.Common.{◌≡◌, ℕ, ◌+◌, ◌*◌, ◌≤◌, max, List, [], ◌∷◌, ◌++◌, map, codes, Bool, true, false, Option, Some, None, refl, sym, ap, subst, ◌∙◌, arith}
+use Rattle.std.proofs.Common.{
+  ◌≡◌,
+  ℕ,
+  ◌+◌,
+  ◌*◌,
+  ◌≤◌,
+  max,
+  List,
+  [],
+  ◌∷◌,
+  ◌++◌,
+  map,
+  codes,
+  Bool,
+  true,
+  false,
+  Option,
+  Some,
+  None,
+  refl,
+  sym,
+  ap,
+  subst,
+  ◌∙◌,
+  arith,
+}
 use Rattle.lf_text.specs.declared.role.Role.{Role}
 use Rattle.lf_text.specs.declared.operator.Op.{Op}
 use Rattle.lf_text.specs.declared.operator.Op.TheVariants.{Add}
 use Rattle.lf_syntax.specs.declared.leaf.Ident.{Ident}
-use Rattle.lf_syntax.specs.Tree.{LevelTree, TermTree, TermTrees, ident, numeral, hole, sorry_term, prop, type_u, sort_u, paren, app, oper, not_term, fun_term, forall_term, let_term, by_term, arrow, no_term, some_term, end_terms, term_and, level_name, levels_of, option_of, terms_of, LBinderTree, binders_of, ItemTree, items_of, RuleTree, rules_of, place}
+use Rattle.lf_syntax.specs.Tree.{
+  LevelTree,
+  TermTree,
+  TermTrees,
+  ident,
+  numeral,
+  hole,
+  sorry_term,
+  prop,
+  type_u,
+  sort_u,
+  paren,
+  app,
+  oper,
+  not_term,
+  fun_term,
+  forall_term,
+  let_term,
+  by_term,
+  arrow,
+  no_term,
+  some_term,
+  end_terms,
+  term_and,
+  level_name,
+  levels_of,
+  option_of,
+  terms_of,
+  LBinderTree,
+  binders_of,
+  ItemTree,
+  items_of,
+  RuleTree,
+  rules_of,
+  place,
+}
 use Rattle.lf_syntax.specs.Predictive.{Takes, join}
 use Rattle.lf_syntax.specs.Symbol as symbol
 use Rattle.lf_syntax.specs.Symbol.{Symbol, Tree, Spine, GroupEnd, BinderEnd, arrow_to, arguments_to, DefRest, DefBody, by_value, by_alternatives}
-use Rattle.lf_syntax.specs.Build.{applied, chain, name_term, spine_of, names_spine, is_underscore, level_of, level_atoms_of, level_and_more, plus_level, name_level, max_level, imax_level, applied_level, bare_name, sort_spine, sort_or_none, is_one_part_name, is_named}
+use Rattle.lf_syntax.specs.Build.{
+  applied,
+  chain,
+  name_term,
+  spine_of,
+  names_spine,
+  is_underscore,
+  level_of,
+  level_atoms_of,
+  level_and_more,
+  plus_level,
+  name_level,
+  max_level,
+  imax_level,
+  applied_level,
+  bare_name,
+  sort_spine,
+  sort_or_none,
+  is_one_part_name,
+  is_named,
+}
 use Rattle.lf_syntax.specs.Row.{Row, Prod, begins_as}
-use Rattle.lf_depth_laws.specs.Height.{greatest, if_any, level_height, levels_height, term_height, option_height, terms_height, lbinder_height, lbinders_height, item_height, items_height, rule_height, rules_height, group_height, helper_height, ctor_height, field_height, alternative_height, command_height}
+use Rattle.lf_depth_laws.specs.Height.{
+  greatest,
+  if_any,
+  level_height,
+  levels_height,
+  term_height,
+  option_height,
+  terms_height,
+  lbinder_height,
+  lbinders_height,
+  item_height,
+  items_height,
+  rule_height,
+  rules_height,
+  group_height,
+  helper_height,
+  ctor_height,
+  field_height,
+  alternative_height,
+  command_height,
+}
 use Rattle.lf_depth_laws.proofs.Sketch.{Sketch, sketch, low_of, step}
 use Rattle.lf_depth_laws.proofs.Effects.{kind, base_by, past_by, past_all}
 use Rattle.lf_depth_laws.proofs.Found.{InRows, begins_in, both_in, map_in}
@@ -186,7 +286,8 @@ rules_same (r ∷ rs) = ap (λ (n : ℕ). max (rule_height r) n) (rules_same rs)
 
 pub chain_height : (t : TermTree) (ops : List (Op × TermTree)) → term_height (chain t ops) ≡ max (term_height t) (greatest op_height ops)
 chain_height t [] = omega arith
-chain_height t (o ∷ more) = let ih : term_height (chain (oper (place t) o.0 t o.1) more) ≡ max (max (term_height t) (1 + term_height o.1)) (greatest op_height more) = chain_height (oper (place t) o.0 t o.1) more in omega arith
+chain_height t (o ∷ more) = let ih : term_height (chain (oper (place t) o.0 t o.1) more)
+    ≡ max (max (term_height t) (1 + term_height o.1)) (greatest op_height more) = chain_height (oper (place t) o.0 t o.1) more in omega arith
 
 -- An application, and a head alone, has at most one node more.
 pub applied_height : (h : TermTree) (ts : List TermTree) → term_height (applied h ts) ≤ 1 + max (term_height h) (greatest term_height ts)

@@ -39,7 +39,8 @@ counted_pieces bytes n [] = tt
 counted_pieces bytes n (t ∷ tokens) =
     let e : role_of t.kind ≡ class_role (class_of (spelled bytes t) t.kind) = sym (role_same (spelled bytes t) t.kind) in
     let after : Nest = nesting_after n (role_of t.kind) in
-    subst (λ (ρ : Role). (after.count.number ≡ (nesting_after n ρ).count.number) × Counted (nesting_after n ρ) (pieces bytes tokens (nesting_of (nesting_after n (role_of t.kind)) tokens))) e
+    subst (λ (ρ : Role). (after.count.number ≡ (nesting_after n ρ).count.number)
+    × Counted (nesting_after n ρ) (pieces bytes tokens (nesting_of (nesting_after n (role_of t.kind)) tokens))) e
     (refl, counted_pieces bytes (nesting_after n (role_of t.kind)) tokens)
 
 counted_take : (k : ℕ) (n : Nest) (ts : List Piece) → Counted n ts → Counted n (take k ts)

@@ -1,5 +1,29 @@
 -- A derivation does to nesting what its symbols do, and its trees keep their bounds.
-use Rattle.std.proofs.Common.{◌≡◌, ℕ, ◌+◌, ◌*◌, ◌≤◌, List, [], ◌∷◌, Bool, true, false, cond, not, ◌&&◌, nat_eq, Some, refl, sym, ap, subst, ◌∙◌, arith, true≢false}
+use Rattle.std.proofs.Common.{
+  ◌≡◌,
+  ℕ,
+  ◌+◌,
+  ◌*◌,
+  ◌≤◌,
+  List,
+  [],
+  ◌∷◌,
+  Bool,
+  true,
+  false,
+  cond,
+  not,
+  ◌&&◌,
+  nat_eq,
+  Some,
+  refl,
+  sym,
+  ap,
+  subst,
+  ◌∙◌,
+  arith,
+  true≢false,
+}
 use Rattle.std.proofs.lemmas.Bool.{eqb-true}
 use Rattle.lf_text.specs.declared.nesting.Enclosure.{Enclosure}
 use Rattle.lf_text.specs.declared.nesting.Enclosure.TheVariants.{Block, Bracket}
@@ -16,8 +40,44 @@ use Rattle.lf_syntax.specs.Grammar.{grammar, Derives}
 use Rattle.lf_syntax.specs.declared.command.Command.{Command as Tree_of_command}
 use Rattle.lf_depth_laws.specs.Depth.{class_role, NestedWithin, ShallowCommands}
 use Rattle.lf_depth_laws.specs.Height.{command_height}
-use Rattle.lf_depth_laws.proofs.Sketch.{Saved, Sketch, sketch, low_of, low_in, base_of, pop, step, valid, is_empty, in_a_block, in_a_bracket, Framed, Matches, step_matches, and_left, and_right}
-use Rattle.lf_depth_laws.proofs.Effects.{Kind, keeps, frees, ends_bracket, ends_block, tops, by_role, kind, entry, is_free, past_by, base_by, valid_by, past_all, fine, Optional, optional_kind}
+use Rattle.lf_depth_laws.proofs.Sketch.{
+  Saved,
+  Sketch,
+  sketch,
+  low_of,
+  low_in,
+  base_of,
+  pop,
+  step,
+  valid,
+  is_empty,
+  in_a_block,
+  in_a_bracket,
+  Framed,
+  Matches,
+  step_matches,
+  and_left,
+  and_right,
+}
+use Rattle.lf_depth_laws.proofs.Effects.{
+  Kind,
+  keeps,
+  frees,
+  ends_bracket,
+  ends_block,
+  tops,
+  by_role,
+  kind,
+  entry,
+  is_free,
+  past_by,
+  base_by,
+  valid_by,
+  past_all,
+  fine,
+  Optional,
+  optional_kind,
+}
 use Rattle.lf_depth_laws.proofs.Found.{found}
 use Rattle.lf_depth_laws.proofs.Flows.{Flows, flows, ended, all_flow}
 use Rattle.lf_depth_laws.proofs.Bounds.{Bound, Low, LowRow}
@@ -70,19 +130,24 @@ at_end r w0 open0 [] waits w o e h = let z : waits ≡ 0 = eqb-true waits 0 e in
 at_end r w0 open0 (f ∷ fs) waits w o e h = cc
 
 -- The symbol's own row, from its entry on.
-entered : (x : Symbol) (κ : Kind) (free : Bool) (N r w0 : ℕ) (open0 : List Enclosure) (n : Nest) (t : Piece) (p : Prod (Tree x)) (ts us : List Piece) (b : Reads grammar p.body ts us) →
+entered : (x : Symbol) (κ : Kind) (free : Bool) (N r w0 : ℕ) (open0 : List Enclosure) (n : Nest) (t : Piece) (p : Prod (Tree x)) (ts us : List Piece)
+    (b : Reads grammar p.body ts us) →
     grammar.begin x t ≡ Some p → entry (kind x) ≡ entry κ → is_free κ ≡ free → (free ≡ true → r ≡ 0) → flows κ (class_role t.class) p.body ≡ true →
     Matches r w0 open0 (entry κ) n → Numbered N n (t ∷ ts) → Inside (Tree x) N b p.build →
     Went N r w0 open0 (past_all p.body (step (class_role t.class) (entry κ))) us (Bound N r x (tree b p.build))
 entered x κ free N r w0 open0 n t p ts us b e k g fr f m nu ih =
     let ρ : Role = class_role t.class in
-    let ok : valid (is_free κ) (class_role t.class) (entry κ) ≡ true = and_left (valid (is_free κ) ρ (entry κ)) (fine (is_free κ) p.body (step ρ (entry κ)) && ended (past_all p.body (step ρ (entry κ)))) f in
+    let ok : valid (is_free κ) (class_role t.class) (entry κ) ≡ true =
+    and_left (valid (is_free κ) ρ (entry κ)) (fine (is_free κ) p.body (step ρ (entry κ)) && ended (past_all p.body (step ρ (entry κ)))) f in
     let more : fine (is_free κ) p.body (step (class_role t.class) (entry κ)) && ended (past_all p.body (step (class_role t.class) (entry κ))) ≡ true =
     and_right (valid (is_free κ) ρ (entry κ)) (fine (is_free κ) p.body (step ρ (entry κ)) && ended (past_all p.body (step ρ (entry κ)))) f in
-    let fits : fine (is_free κ) p.body (step (class_role t.class) (entry κ)) ≡ true = and_left (fine (is_free κ) p.body (step ρ (entry κ))) (ended (past_all p.body (step ρ (entry κ)))) more in
-    let low : LowRow N r (Bound N r x) (entry (kind x)) (class_role t.class) p = found (LowRow N r (Bound N r x) (entry (kind x))) (rows x) t.class t.at p (all_low x N r) e in
+    let fits : fine (is_free κ) p.body (step (class_role t.class) (entry κ)) ≡ true =
+    and_left (fine (is_free κ) p.body (step ρ (entry κ))) (ended (past_all p.body (step ρ (entry κ)))) more in
+    let low : LowRow N r (Bound N r x) (entry (kind x)) (class_role t.class) p =
+    found (LowRow N r (Bound N r x) (entry (kind x))) (rows x) t.class t.at p (all_low x N r) e in
     let frees_too : is_free κ ≡ true → r ≡ 0 = λ h. fr (sym g ∙ h) in
-    let m1 : Matches r w0 open0 (step (class_role t.class) (entry κ)) (nesting_after n (class_role t.class)) = step_matches r w0 open0 (is_free κ) ρ (entry κ) n frees_too ok m in
+    let m1 : Matches r w0 open0 (step (class_role t.class) (entry κ)) (nesting_after n (class_role t.class)) =
+    step_matches r w0 open0 (is_free κ) ρ (entry κ) n frees_too ok m in
     let within : (nesting_after n (class_role t.class)).count.number ≤ N = number_within N (nesting_after n ρ) ts nu.1 in
     ih (Bound N r x) (is_free κ) r w0 open0 (step ρ (entry κ)) (nesting_after n ρ) frees_too m1 nu.1 fits
     (subst (λ (z : Sketch). r + low_of (step ρ z) ≤ N → Low N r (Bound N r x) (step ρ z) p.body p.build) k low (omega (arith, m1.0, within)))
@@ -157,40 +222,49 @@ no_tree symbol.rw_rule ρ N b v e = cc
 no_tree symbol.more_rules ρ N b v e = cc
 
 symbol_reads : (x : Symbol) (κ : Kind) → kind x ≡ κ →
-    (free : Bool) (N r w0 : ℕ) (open0 : List Enclosure) (s : Sketch) (n : Nest) (t : Piece) (p : Prod (Tree x)) (ts us : List Piece) (b : Reads grammar p.body ts us) →
+    (free : Bool) (N r w0 : ℕ) (open0 : List Enclosure) (s : Sketch) (n : Nest) (t : Piece) (p : Prod (Tree x)) (ts us : List Piece)
+    (b : Reads grammar p.body ts us) →
     grammar.begin x t ≡ Some p → (free ≡ true → r ≡ 0) → valid_by free κ s ≡ true → Matches r w0 open0 s n → Numbered N n (t ∷ ts) →
     Inside (Tree x) N b p.build →
     Went N r w0 open0 (past_by κ s) us (Bound N (r + base_by κ s) x (tree b p.build))
 symbol_reads x keeps k free N r w0 open0 s n t p ts us b e fr ok m nu ih =
-    let f : flows keeps (class_role t.class) p.body ≡ true = subst (λ (κ : Kind). Flows κ (class_role t.class) p) k (found (Flows (kind x)) (rows x) t.class t.at p (all_flow x) e) in
-    let w : Went N (r + low_of s) n.count.waiting n.open_ (past_all p.body (step (class_role t.class) (entry keeps))) us (Bound N (r + low_of s) x (tree b p.build)) =
-    entered x keeps false N (r + low_of s) n.count.waiting n.open_ n t p ts us b e (ap entry k) refl (λ h. absurd (true≢false (sym h))) f (omega (arith, m.0), (omega arith, refl)) nu ih in
-    let out = at_end (r + low_of s) n.count.waiting n.open_ (past_all p.body (step (class_role t.class) (entry keeps))).saved (past_all p.body (step (class_role t.class) (entry keeps))).waits
+    let f : flows keeps (class_role t.class) p.body ≡ true =
+    subst (λ (κ : Kind). Flows κ (class_role t.class) p) k (found (Flows (kind x)) (rows x) t.class t.at p (all_flow x) e) in
+    let w : Went N (r + low_of s) n.count.waiting n.open_ (past_all p.body (step (class_role t.class) (entry keeps))) us
+    (Bound N (r + low_of s) x (tree b p.build)) =
+    entered x keeps false N (r + low_of s) n.count.waiting n.open_ n t p ts us b e (ap entry k) refl (λ h. absurd (true≢false (sym h))) f
+    (omega (arith, m.0), (omega arith, refl)) nu ih in
+    let out = at_end (r + low_of s) n.count.waiting n.open_ (past_all p.body (step (class_role t.class) (entry keeps))).saved
+    (past_all p.body (step (class_role t.class) (entry keeps))).waits
     w.nest.count.waiting w.nest.open_ (ended_at keeps (class_role t.class) p.body f) w.matches.1 in
     record {
       nest = w.nest;
       matches = (
         omega (arith, w.matches.0),
-        subst (λ (k : ℕ). Framed r w0 open0 s.saved s.waits k w.nest.open_) (sym out.0) (subst (λ (o : List Enclosure). Framed r w0 open0 s.saved s.waits n.count.waiting o) (sym out.1) m.1),
+        subst (λ (k : ℕ). Framed r w0 open0 s.saved s.waits k w.nest.open_) (sym out.0)
+            (subst (λ (o : List Enclosure). Framed r w0 open0 s.saved s.waits n.count.waiting o) (sym out.1) m.1),
       );
       numbered = w.numbered;
       holds = w.holds;
     }
 symbol_reads x frees k free N r w0 open0 s n t p ts us b e fr ok m nu ih =
-    let f : flows frees (class_role t.class) p.body ≡ true = subst (λ (κ : Kind). Flows κ (class_role t.class) p) k (found (Flows (kind x)) (rows x) t.class t.at p (all_flow x) e) in
+    let f : flows frees (class_role t.class) p.body ≡ true =
+    subst (λ (κ : Kind). Flows κ (class_role t.class) p) k (found (Flows (kind x)) (rows x) t.class t.at p (all_flow x) e) in
     let zero : r ≡ 0 = fr (and_left free (is_empty s.saved) ok) in
     let w : Went N (r + 0) n.count.waiting n.open_ (past_all p.body (step (class_role t.class) (entry frees))) us (Bound N (r + 0) x (tree b p.build)) =
     entered x frees true N (r + 0) n.count.waiting n.open_ n t p ts us b e (ap entry k) refl (λ _. omega (arith, zero)) f (
       omega (arith, zero),
       (omega arith, refl),
     ) nu ih in
-    let out = at_end (r + 0) n.count.waiting n.open_ (past_all p.body (step (class_role t.class) (entry frees))).saved (past_all p.body (step (class_role t.class) (entry frees))).waits
+    let out = at_end (r + 0) n.count.waiting n.open_ (past_all p.body (step (class_role t.class) (entry frees))).saved
+    (past_all p.body (step (class_role t.class) (entry frees))).waits
     w.nest.count.waiting w.nest.open_ (ended_at frees (class_role t.class) p.body f) w.matches.1 in
     record {
       nest = w.nest;
       matches = (
         outside s.saved (and_right free (is_empty s.saved) ok) zero,
-        subst (λ (k : ℕ). Framed r w0 open0 s.saved s.waits k w.nest.open_) (sym out.0) (subst (λ (o : List Enclosure). Framed r w0 open0 s.saved s.waits n.count.waiting o) (sym out.1) m.1),
+        subst (λ (k : ℕ). Framed r w0 open0 s.saved s.waits k w.nest.open_) (sym out.0)
+            (subst (λ (o : List Enclosure). Framed r w0 open0 s.saved s.waits n.count.waiting o) (sym out.1) m.1),
       );
       numbered = w.numbered;
       holds = w.holds;
@@ -200,8 +274,10 @@ symbol_reads x frees k free N r w0 open0 s n t p ts us b e fr ok m nu ih =
     outside [] g z = omega (arith, z)
     outside (f ∷ fs) g z = cc
 symbol_reads x ends_bracket k free N r w0 open0 s n t p ts us b e fr ok m nu ih =
-    let f : flows ends_bracket (class_role t.class) p.body ≡ true = subst (λ (κ : Kind). Flows κ (class_role t.class) p) k (found (Flows (kind x)) (rows x) t.class t.at p (all_flow x) e) in
-    go s.saved n.open_ refl refl f (and_left (in_a_bracket s.saved) (nat_eq s.waits 0) ok) (eqb-true s.waits 0 (and_right (in_a_bracket s.saved) (nat_eq s.waits 0) ok)) m.0 m.1
+    let f : flows ends_bracket (class_role t.class) p.body ≡ true =
+    subst (λ (κ : Kind). Flows κ (class_role t.class) p) k (found (Flows (kind x)) (rows x) t.class t.at p (all_flow x) e) in
+    go s.saved n.open_ refl refl f (and_left (in_a_bracket s.saved) (nat_eq s.waits 0) ok)
+    (eqb-true s.waits 0 (and_right (in_a_bracket s.saved) (nat_eq s.waits 0) ok)) m.0 m.1
   where
     go : (saved : List Saved) (o : List Enclosure) → s.saved ≡ saved → n.open_ ≡ o → flows ends_bracket (class_role t.class) p.body ≡ true →
         in_a_bracket saved ≡ true → s.waits ≡ 0 →
@@ -223,20 +299,24 @@ symbol_reads x ends_bracket k free N r w0 open0 s n t p ts us b e fr ok m nu ih 
           subst (λ (v : List Enclosure). Framed (r + base) c.waiting more (record { in_block = false; up = 0; waits = 0 } ∷ []) 0 n.count.waiting v) (sym u)
               (h.0 ∙ z, refl, omega (arith, h.2), (omega arith, refl)),
         ) nu ih in
-        let out = at_end (r + base) c.waiting more (past_all p.body (step (class_role t.class) (entry ends_bracket))).saved (past_all p.body (step (class_role t.class) (entry ends_bracket))).waits
+        let out = at_end (r + base) c.waiting more (past_all p.body (step (class_role t.class) (entry ends_bracket))).saved
+        (past_all p.body (step (class_role t.class) (entry ends_bracket))).waits
         w.nest.count.waiting w.nest.open_ (ended_at ends_bracket (class_role t.class) p.body f) w.matches.1 in
         record {
           nest = w.nest;
           matches = (
             omega (arith, w.matches.0),
-            subst (λ (k : ℕ). Framed r w0 open0 gs g.waits k w.nest.open_) (sym out.0) (subst (λ (o : List Enclosure). Framed r w0 open0 gs g.waits c.waiting o) (sym out.1) h.3),
+            subst (λ (k : ℕ). Framed r w0 open0 gs g.waits k w.nest.open_) (sym out.0)
+                (subst (λ (o : List Enclosure). Framed r w0 open0 gs g.waits c.waiting o) (sym out.1) h.3),
           );
           numbered = w.numbered;
           holds = w.holds;
         }
 symbol_reads x ends_block k free N r w0 open0 s n t p ts us b e fr ok m nu ih =
-    let f : flows ends_block (class_role t.class) p.body ≡ true = subst (λ (κ : Kind). Flows κ (class_role t.class) p) k (found (Flows (kind x)) (rows x) t.class t.at p (all_flow x) e) in
-    go s.saved n.open_ refl refl f (and_left (in_a_block s.saved) (nat_eq s.waits 0) ok) (eqb-true s.waits 0 (and_right (in_a_block s.saved) (nat_eq s.waits 0) ok)) m.0 m.1
+    let f : flows ends_block (class_role t.class) p.body ≡ true =
+    subst (λ (κ : Kind). Flows κ (class_role t.class) p) k (found (Flows (kind x)) (rows x) t.class t.at p (all_flow x) e) in
+    go s.saved n.open_ refl refl f (and_left (in_a_block s.saved) (nat_eq s.waits 0) ok)
+    (eqb-true s.waits 0 (and_right (in_a_block s.saved) (nat_eq s.waits 0) ok)) m.0 m.1
   where
     go : (saved : List Saved) (o : List Enclosure) → s.saved ≡ saved → n.open_ ≡ o → flows ends_block (class_role t.class) p.body ≡ true →
         in_a_block saved ≡ true → s.waits ≡ 0 →
@@ -257,13 +337,15 @@ symbol_reads x ends_block k free N r w0 open0 s n t p ts us b e fr ok m nu ih =
           subst (λ (v : List Enclosure). Framed (r + base) c.waiting more (record { in_block = true; up = 0; waits = 0 } ∷ []) 0 n.count.waiting v) (sym u)
               (h.0 ∙ z, refl, omega (arith, h.2), (omega arith, refl)),
         ) nu ih in
-        let out = at_end (r + base) c.waiting more (past_all p.body (step (class_role t.class) (entry ends_block))).saved (past_all p.body (step (class_role t.class) (entry ends_block))).waits
+        let out = at_end (r + base) c.waiting more (past_all p.body (step (class_role t.class) (entry ends_block))).saved
+        (past_all p.body (step (class_role t.class) (entry ends_block))).waits
         w.nest.count.waiting w.nest.open_ (ended_at ends_block (class_role t.class) p.body f) w.matches.1 in
         record {
           nest = w.nest;
           matches = (
             omega (arith, w.matches.0),
-            subst (λ (k : ℕ). Framed r w0 open0 gs g.waits k w.nest.open_) (sym out.0) (subst (λ (o : List Enclosure). Framed r w0 open0 gs g.waits c.waiting o) (sym out.1) h.3),
+            subst (λ (k : ℕ). Framed r w0 open0 gs g.waits k w.nest.open_) (sym out.0)
+                (subst (λ (o : List Enclosure). Framed r w0 open0 gs g.waits c.waiting o) (sym out.1) h.3),
           );
           numbered = w.numbered;
           holds = w.holds;
@@ -288,19 +370,23 @@ reads_low A N nothing f Q free r w0 open0 s n fr m nu ok low = record { nest = n
 reads_low A N (left_out {x} {xs} {ts} v e q d) f Q free r w0 open0 s n fr m nu ok low =
     let o : Optional (kind x) = optional_kind x v e in
     let l : r + base_by (kind x) s ≤ N = omega (arith, left_base (kind x) s o, m.0, number_within N n ts nu) in
-    reads_low A N d (f v) Q free r w0 open0 (past_by (kind x) s) n fr (left_matches (kind x) r w0 open0 s n o m) nu (and_right (valid_by free (kind x) s) (fine free xs (past_by (kind x) s)) ok)
+    reads_low A N d (f v) Q free r w0 open0 (past_by (kind x) s) n fr (left_matches (kind x) r w0 open0 s n o m) nu
+    (and_right (valid_by free (kind x) s) (fine free xs (past_by (kind x) s)) ok)
     (low v (left_low x v e N (r + base_by (kind x) s) l))
 reads_low A N (taken {x} {xs} {ts} {us} t p e b d) f Q free r w0 open0 s n fr m nu ok low =
     let w : Went N r w0 open0 (past_by (kind x) s) us (Bound N (r + base_by (kind x) s) x (tree b p.build)) =
-    symbol_reads x (kind x) refl free N r w0 open0 s n t p ts us b e fr (and_left (valid_by free (kind x) s) (fine free xs (past_by (kind x) s)) ok) m nu (reads_low (Tree x) N b p.build) in
-    reads_low A N d (f (tree b p.build)) Q free r w0 open0 (past_by (kind x) s) w.nest fr w.matches w.numbered (and_right (valid_by free (kind x) s) (fine free xs (past_by (kind x) s)) ok)
+    symbol_reads x (kind x) refl free N r w0 open0 s n t p ts us b e fr (and_left (valid_by free (kind x) s) (fine free xs (past_by (kind x) s)) ok) m nu
+    (reads_low (Tree x) N b p.build) in
+    reads_low A N d (f (tree b p.build)) Q free r w0 open0 (past_by (kind x) s) w.nest fr w.matches w.numbered
+    (and_right (valid_by free (kind x) s) (fine free xs (past_by (kind x) s)) ok)
     (low (tree b p.build) w.holds)
 
 numbered_by : (N : ℕ) (n : Nest) (ts : List Piece) → n.count.number ≤ N → NestedWithin N n ts → Numbered N n ts
 numbered_by N n [] l h = l
 numbered_by N n (t ∷ ts) l h = (
   l,
-  numbered_by N (nesting_after n (class_role t.class)) ts (let e : t.nesting ≡ (nesting_after n (class_role t.class)).count.number = h.0 in omega (arith, e, h.1)) h.2,
+  numbered_by N (nesting_after n (class_role t.class)) ts
+      (let e : t.nesting ≡ (nesting_after n (class_role t.class)).count.number = h.0 in omega (arith, e, h.1)) h.2,
 )
 
 -- Whatever stands before it, a command begins at the outside.
@@ -312,7 +398,8 @@ command_low N n ts c h d = subst (λ (z : Tree_of_command). command_height z ≤
     go _ (taken {ts} t p e b nothing) h =
         let f = found (Flows tops) (rows symbol.command) t.class t.at p (all_flow symbol.command) e in
         let role : class_role t.class ≡ Command = f.0 in
-        let low : LowRow N 0 (Bound N 0 symbol.command) (sketch 0 0 []) (class_role t.class) p = found (LowRow N 0 (Bound N 0 symbol.command) (sketch 0 0 [])) (rows symbol.command) t.class t.at p (all_low symbol.command N 0) e in
+        let low : LowRow N 0 (Bound N 0 symbol.command) (sketch 0 0 []) (class_role t.class) p =
+        found (LowRow N 0 (Bound N 0 symbol.command) (sketch 0 0 [])) (rows symbol.command) t.class t.at p (all_low symbol.command N 0) e in
         let start : NestedWithin N outermost ts = subst (λ (z : Role). NestedWithin N (nesting_after n z) ts) role h.2 in
         let w = reads_low Tree_of_command N b p.build (Bound N 0 symbol.command) true 0 0 [] (sketch 0 0 []) outermost (λ _. refl) (
           omega arith,

@@ -12,7 +12,22 @@ use Rattle.lf_syntax.specs.declared.leaf.Num.{Num}
 use Rattle.lf_syntax.specs.Predictive.{Takes}
 use Rattle.lf_syntax.specs.Piece.{Class, word, name, number, operator, word_code}
 use Rattle.lf_syntax.specs.Symbol.{Symbol, Tree}
-use Rattle.lf_syntax.specs.Row.{Row, Prod, on_word, on_name, on_one_part, on_spelling, on_number, on_digit, on_operator, try, first_row, if_true, and_then, begins_as}
+use Rattle.lf_syntax.specs.Row.{
+  Row,
+  Prod,
+  on_word,
+  on_name,
+  on_one_part,
+  on_spelling,
+  on_number,
+  on_digit,
+  on_operator,
+  try,
+  first_row,
+  if_true,
+  and_then,
+  begins_as,
+}
 use Rattle.lf_depth_laws.specs.Depth.{class_role}
 
 abbrev all_words : List Word

@@ -12,13 +12,58 @@ use Rattle.lf_syntax.specs.Symbol as symbol
 use Rattle.lf_syntax.specs.Symbol.{Symbol, Tree, Spine, GroupEnd, BinderEnd, arrow_to, arguments_to, DefBody, by_value, by_alternatives}
 use Rattle.lf_syntax.specs.Build.{with_arguments, applied, chain, name_term, names_spine, group_of, close_of, is_underscore, underscore_at}
 use Rattle.lf_syntax.specs.Row.{Row, then, on_word, on_one_part, begins_as}
-use Rattle.lf_syntax.specs.Rows.{rows, without, operand_rows, term_rows, argument_rows, operator_rows, group_end_rows, name_levels_rows, group_names_rows_by, bracket_name_rows, written_levels_rows, unnamed, binders_at, implicit_binder, plus, defined, decl_of}
+use Rattle.lf_syntax.specs.Rows.{
+  rows,
+  without,
+  operand_rows,
+  term_rows,
+  argument_rows,
+  operator_rows,
+  group_end_rows,
+  name_levels_rows,
+  group_names_rows_by,
+  bracket_name_rows,
+  written_levels_rows,
+  unnamed,
+  binders_at,
+  implicit_binder,
+  plus,
+  defined,
+  decl_of,
+}
 use Rattle.lf_syntax.specs.Levels.{operand_level}
 use Rattle.lf_depth_laws.specs.Height.{greatest, if_any, level_height, term_height, lbinder_height, group_height, decl_height, command_height}
 use Rattle.lf_depth_laws.proofs.Sketch.{Sketch, sketch, low_of}
 use Rattle.lf_depth_laws.proofs.Effects.{kind, entry}
 use Rattle.lf_depth_laws.proofs.Found.{InRows, append_in}
-use Rattle.lf_depth_laws.proofs.Bounds.{Fits, EndFits, Bound, LowRow, LowRows, map_low, Rises, RisesRow, spine_height, op_height, body_height, begins_low, ends_low, begins_rise, option_same, levels_same, lbinders_same, items_same, rules_same, chain_height, applied_height, greatest_append, name_height, names_height, sorts_low, some_height}
+use Rattle.lf_depth_laws.proofs.Bounds.{
+  Fits,
+  EndFits,
+  Bound,
+  LowRow,
+  LowRows,
+  map_low,
+  Rises,
+  RisesRow,
+  spine_height,
+  op_height,
+  body_height,
+  begins_low,
+  ends_low,
+  begins_rise,
+  option_same,
+  levels_same,
+  lbinders_same,
+  items_same,
+  rules_same,
+  chain_height,
+  applied_height,
+  greatest_append,
+  name_height,
+  names_height,
+  sorts_low,
+  some_height,
+}
 
 up : (s : Sketch) → Rises s (sketch (s.up + 1) s.waits s.saved)
 up s = record { to = s.up + 1; above = omega arith; same = refl }
@@ -122,13 +167,15 @@ operated_low N r low h ts ops f g = omega (arith, f, g, chain_height (applied h 
 terms_low : (N r : ℕ) (s : Sketch) (least : ℕ) → LowRows N r (λ t. Fits N (r + low_of s) 4 (term_height t)) s (term_rows least)
 terms_low N r s least = (
   λ at p t ht ops hops. omega (arith, ht, hops, chain_height (not_term at t) ops),
-  begins_low N r (λ v. Fits N (r + low_of s) 3 (spine_height v)) (λ t. Fits N (r + low_of s) 4 (term_height t)) s operand_rows (symbol.operators least operand_level ∷ [])
+  begins_low N r (λ v. Fits N (r + low_of s) 3 (spine_height v)) (λ t. Fits N (r + low_of s) 4 (term_height t)) s operand_rows
+      (symbol.operators least operand_level ∷ [])
       (λ v ops. chain (applied v.head v.arguments) ops) (operands_rise s) (operands_low N r s)
       (λ v f u l ops hops. operated_low N r (low_of s) v.head v.arguments ops f (omega (arith, hops, l))),
 )
 
 arguments_low : (N r : ℕ) (s : Sketch) → LowRows N r (λ ts. Fits N (r + low_of s) 3 (greatest term_height ts)) s argument_rows
-arguments_low N r s = ends_low N r (λ v. Fits N (r + low_of s) 3 (spine_height v)) (λ ts. Fits N (r + low_of s) 3 (greatest term_height ts)) s operand_rows (λ v. v.head ∷ v.arguments)
+arguments_low N r s = ends_low N r (λ v. Fits N (r + low_of s) 3 (spine_height v)) (λ ts. Fits N (r + low_of s) 3 (greatest term_height ts)) s operand_rows
+    (λ v. v.head ∷ v.arguments)
     (operands_low N r s) (λ v f. f)
 
 operators_low : (N r : ℕ) (s : Sketch) (least left : ℕ) → LowRows N r (λ ops. Fits N (r + low_of s) 2 (greatest op_height ops)) s (operator_rows least left)
@@ -251,7 +298,8 @@ module _ (N r : ℕ) (at : ℕ) (before : List Ident) (x : Ident) where
       end_at (arguments_to ts) f = omega (arith, f)
 
   argued_low : LowRows N r SpineFits opened argued
-  argued_low = begins_low N r (λ ts. Fits N (r + low_of opened) 3 (greatest term_height ts)) SpineFits opened argument_rows (symbol.operators 0 operand_level ∷ symbol.group_end ∷ [])
+  argued_low = begins_low N r (λ ts. Fits N (r + low_of opened) 3 (greatest term_height ts)) SpineFits opened argument_rows
+      (symbol.operators 0 operand_level ∷ symbol.group_end ∷ [])
       (λ ts ops e. group_of at (names_spine before x []) ts ops e) (arguments_rise opened) (arguments_low N r opened)
       (λ ts f u l ops ho e he. group_low N r at (names_spine before x []) ts ops e (omega (arith, f)) (omega (
         arith,
@@ -260,7 +308,8 @@ module _ (N r : ℕ) (at : ℕ) (before : List Ident) (x : Ident) where
       )) (omega (arith, f)) (omega (arith, ho)) (omega (arith, he.0), omega (arith, he.1)))
 
   operated_rows_low : LowRows N r SpineFits opened operated
-  operated_rows_low = begins_low N r (λ ops. Fits N (r + low_of opened) 2 (greatest op_height ops)) SpineFits opened (operator_rows 0 operand_level) (symbol.group_end ∷ [])
+  operated_rows_low = begins_low N r (λ ops. Fits N (r + low_of opened) 2 (greatest op_height ops)) SpineFits opened (operator_rows 0 operand_level)
+      (symbol.group_end ∷ [])
       (λ ops e. group_of at (names_spine before x []) [] ops e) (operators_rise opened 0 operand_level) (operators_low N r opened 0 operand_level)
       (λ ops f u l e he. group_low N r at (names_spine before x []) [] ops e (omega (arith, f)) (omega (
         arith,
@@ -269,13 +318,15 @@ module _ (N r : ℕ) (at : ℕ) (before : List Ident) (x : Ident) where
       )) (omega (arith, f)) (omega (arith, f)) (omega (arith, he.0), omega (arith, he.1)))
 
   closed_low : LowRows N r SpineFits opened closed
-  closed_low = ends_low N r (Bound N r symbol.group_end) SpineFits opened group_end_rows (λ e. group_of at (names_spine before x []) [] [] e) (group_end_low N r)
+  closed_low = ends_low N r (Bound N r symbol.group_end) SpineFits opened group_end_rows (λ e. group_of at (names_spine before x []) [] [] e)
+      (group_end_low N r)
       (λ e he. group_alone N r at (names_spine before x []) e (omega (arith, he.0)) (names_height before x []) he)
 
   group_names_low : (b : Bool) → LowRows N r SpineFits opened (group_names_rows_by b at before x)
   group_names_low b =
       append_in (LowRow N r SpineFits opened) (named b ++ argued ++ operated) closed
-      (append_in (LowRow N r SpineFits opened) (named b ++ argued) operated (append_in (LowRow N r SpineFits opened) (named b) argued (named_low b) argued_low) operated_rows_low) closed_low
+      (append_in (LowRow N r SpineFits opened) (named b ++ argued) operated
+      (append_in (LowRow N r SpineFits opened) (named b) argued (named_low b) argued_low) operated_rows_low) closed_low
 
 bracket_low : (N r at : ℕ) (h : TermTree) (ts : List TermTree) (ops : List (Op × TermTree)) → Fits N r 1 (term_height h) →
     (1 ≤ greatest term_height ts → Fits N r 0 (term_height h)) →
@@ -323,7 +374,8 @@ module _ (N r : ℕ) (at : ℕ) (x : Ident) where
   )
 
   argued_bracket_low : LowRows N r GroupFits opened argued_bracket
-  argued_bracket_low = begins_low N r (λ ts. Fits N (r + low_of opened) 3 (greatest term_height ts)) GroupFits opened argument_rows (symbol.operators 0 operand_level ∷ symbol.token words.RightBracket ∷ [])
+  argued_bracket_low = begins_low N r (λ ts. Fits N (r + low_of opened) 3 (greatest term_height ts)) GroupFits opened argument_rows
+      (symbol.operators 0 operand_level ∷ symbol.token words.RightBracket ∷ [])
       (λ ts ops _. unnamed at (chain (applied (name_term x []) ts) ops)) (arguments_rise opened) (arguments_low N r opened)
       (λ ts f u l ops ho _ _. bracket_low N r at (name_term x []) ts ops (omega (arith, f, name_height x [])) (λ k. omega (
         arith,
@@ -333,13 +385,15 @@ module _ (N r : ℕ) (at : ℕ) (x : Ident) where
       )) (omega (arith, f)) (omega (arith, ho)))
 
   operated_bracket_low : LowRows N r GroupFits opened operated_bracket
-  operated_bracket_low = begins_low N r (λ ops. Fits N (r + low_of opened) 2 (greatest op_height ops)) GroupFits opened (operator_rows 0 operand_level) (symbol.token words.RightBracket ∷ [])
+  operated_bracket_low = begins_low N r (λ ops. Fits N (r + low_of opened) 2 (greatest op_height ops)) GroupFits opened (operator_rows 0 operand_level)
+      (symbol.token words.RightBracket ∷ [])
       (λ ops _. unnamed at (chain (name_term x []) ops)) (operators_rise opened 0 operand_level) (operators_low N r opened 0 operand_level)
       (λ ops f u l _ _. omega (arith, f, name_height x [], chain_height (name_term x []) ops))
 
   bracket_name_low : LowRows N r GroupFits opened (bracket_name_rows at x)
   bracket_name_low =
-      append_in (LowRow N r GroupFits opened) (first ++ argued_bracket) operated_bracket (append_in (LowRow N r GroupFits opened) first argued_bracket first_low argued_bracket_low) operated_bracket_low
+      append_in (LowRow N r GroupFits opened) (first ++ argued_bracket) operated_bracket
+      (append_in (LowRow N r GroupFits opened) first argued_bracket first_low argued_bracket_low) operated_bracket_low
 
 implicit_low : (N r at : ℕ) (xs : List Ident) (ty : Option TermTree) → Fits N r 1 (if_any term_height ty) →
     Fits N r 2 (lbinder_height (implicit_binder at xs ty))
@@ -581,16 +635,20 @@ all_low symbol.item N r = (
 all_low symbol.more_rules N r = (λ at p q hq rs hrs. omega (arith, hq, hrs), (λ at p. omega (arith, p), tt))
 all_low (symbol.bracket at) N r = (
   λ x p b hb. omega (arith, hb),
-  begins_low N r (λ t. Fits N (r + low_of opened) 4 (term_height t)) (λ g. Fits N r 2 (group_height g)) opened (term_rows 0) (symbol.token words.RightBracket ∷ []) (λ ty _. unnamed at ty)
+  begins_low N r (λ t. Fits N (r + low_of opened) 4 (term_height t)) (λ g. Fits N r 2 (group_height g)) opened (term_rows 0)
+      (symbol.token words.RightBracket ∷ []) (λ ty _. unnamed at ty)
       (terms_rise opened 0) (terms_low N r opened 0) (λ ty f u l _ _. omega (arith, f)),
 )
 all_low (symbol.bracket_name at x) N r = bracket_name_low N r at x
 all_low (symbol.term least) N r =
-    map_low N r (λ t. Fits N (r + (0 + 0)) 4 (term_height t)) (λ t. Fits N r 4 (term_height t)) (sketch 0 0 []) (term_rows least) (λ t f. omega (arith, f)) (terms_low N r (sketch 0 0 []) least)
+    map_low N r (λ t. Fits N (r + (0 + 0)) 4 (term_height t)) (λ t. Fits N r 4 (term_height t)) (sketch 0 0 []) (term_rows least) (λ t f. omega (arith, f))
+    (terms_low N r (sketch 0 0 []) least)
 all_low symbol.arguments N r =
-    map_low N r (λ ts. Fits N (r + (0 + 0)) 3 (greatest term_height ts)) (λ ts. Fits N r 3 (greatest term_height ts)) (sketch 0 0 []) argument_rows (λ ts f. omega (arith, f)) (arguments_low N r (sketch 0 0 []))
+    map_low N r (λ ts. Fits N (r + (0 + 0)) 3 (greatest term_height ts)) (λ ts. Fits N r 3 (greatest term_height ts)) (sketch 0 0 []) argument_rows
+    (λ ts f. omega (arith, f)) (arguments_low N r (sketch 0 0 []))
 all_low (symbol.operators least left) N r =
-    map_low N r (λ ops. Fits N (r + (0 + 0)) 2 (greatest op_height ops)) (λ ops. Fits N r 2 (greatest op_height ops)) (sketch 0 0 []) (operator_rows least left) (λ ops f. omega (arith, f))
+    map_low N r (λ ops. Fits N (r + (0 + 0)) 2 (greatest op_height ops)) (λ ops. Fits N r 2 (greatest op_height ops)) (sketch 0 0 [])
+    (operator_rows least left) (λ ops f. omega (arith, f))
     (operators_low N r (sketch 0 0 []) least left)
 all_low (symbol.group at) N r = (
   λ x p s f. omega (arith, f),
@@ -605,11 +663,13 @@ all_low (symbol.group_names at before x) N r = group_names_low N r at before x (
 all_low symbol.group_end N r = group_end_low N r
 all_low symbol.binder_end N r = (
   λ o e p t ht. omega (arith, ht),
-  ends_low N r (λ ts. Fits N (r + (0 + 0)) 3 (greatest term_height ts)) (EndFits N r) (sketch 0 0 []) argument_rows arguments_to (arguments_low N r (sketch 0 0 [])) (λ ts f. omega (arith, f)),
+  ends_low N r (λ ts. Fits N (r + (0 + 0)) 3 (greatest term_height ts)) (EndFits N r) (sketch 0 0 []) argument_rows arguments_to
+      (arguments_low N r (sketch 0 0 [])) (λ ts f. omega (arith, f)),
 )
 all_low symbol.rw_rule N r = (
   λ at p t ht. omega (arith, ht),
-  ends_low N r (λ t. Fits N (r + (0 + 0)) 4 (term_height t)) (Bound N r symbol.rw_rule) (sketch 0 0 []) (term_rows 0) (λ t. rule (place t) false t) (terms_low N r (sketch 0 0 []) 0) (λ t f. omega (arith, f)),
+  ends_low N r (λ t. Fits N (r + (0 + 0)) 4 (term_height t)) (Bound N r symbol.rw_rule) (sketch 0 0 []) (term_rows 0) (λ t. rule (place t) false t)
+      (terms_low N r (sketch 0 0 []) 0) (λ t f. omega (arith, f)),
 )
 
 some_is : {A : Type 0} (P : A → Type 0) (a b : A) → ◌≡◌ {A = Option A} (Some a) (Some b) → P a → P b

@@ -3,7 +3,21 @@ use Rattle.std.proofs.Common.{◌≡◌, ℕ, ◌+◌, ◌≤◌, List, [], ◌�
 use Rattle.lf_text.specs.declared.nesting.Enclosure.{Enclosure}
 use Rattle.lf_text.specs.declared.nesting.Enclosure.TheVariants.{Block, Bracket}
 use Rattle.lf_text.specs.declared.role.Role.{Role}
-use Rattle.lf_text.specs.declared.role.Role.TheVariants.{Command, BlockOpener, Where, Bar, Opening, Closing, Let, Semicolon, Nesting, BlockOpen, BlockSep, BlockClose, Other}
+use Rattle.lf_text.specs.declared.role.Role.TheVariants.{
+  Command,
+  BlockOpener,
+  Where,
+  Bar,
+  Opening,
+  Closing,
+  Let,
+  Semicolon,
+  Nesting,
+  BlockOpen,
+  BlockSep,
+  BlockClose,
+  Other,
+}
 use Rattle.lf_text.specs.Nesting.{Nest, nest, nesting_after, next_item, leave_block, leave_bracket, at_semicolon}
 
 -- A block or bracket that has opened: how many tokens had counted since the opening of what is around it, and how many `let`s waited there.
@@ -188,7 +202,8 @@ module _ (r w0 : ℕ) (open0 : List Enclosure) where
           (parting s n saved n.open_ t refl e (subst (λ (k : ℕ). Framed saved s.waits k n.open_) (sym q) h))
       go (suc w) q saved t e h = absurd (let z : suc w ≡ 0 = none saved (suc w) n.open_ e h in omega arith)
   semicolons s n (suc waits) p e m =
-      let d : Ends s.saved waits n.count.waiting n.open_ = ends_let waits n.count.waiting s.saved n.open_ (subst (λ (k : ℕ). Framed s.saved k n.count.waiting n.open_) p m.1) in
+      let d : Ends s.saved waits n.count.waiting n.open_ =
+      ends_let waits n.count.waiting s.saved n.open_ (subst (λ (k : ℕ). Framed s.saved k n.count.waiting n.open_) p m.1) in
       subst (λ (k : ℕ). Matches (sketch s.up waits s.saved) (at_semicolon n k)) (sym d.same) (m.0, d.framed)
 
   pub step_matches : (free : Bool) (ρ : Role) (s : Sketch) (n : Nest) → (free ≡ true → r ≡ 0) → valid free ρ s ≡ true → Matches s n →

@@ -341,7 +341,8 @@ sixth =
       (
         new (E ++ type_constant truth true ∷ []) (codes "T" ∷ codes "mk" ∷ []) refl,
         (
-          new (E ++ type_constant truth true ∷ constructor_constant truth 0 (record { name = codes "T" ∷ codes "mk" ∷ []; ty = const (codes "T" ∷ []) [] }) ∷ [])
+          new (E ++ type_constant truth true ∷ constructor_constant truth 0 (record { name = codes "T" ∷ codes "mk" ∷ []; ty = const (codes "T" ∷ []) [] })
+              ∷ [])
               (recursor_name truth) refl,
           tt,
         ),

@@ -1,5 +1,34 @@
 -- Lists of entries: what counts of them, what is found in them, names that differ.
-use Rattle.std.specs.Prelude.{◌≡◌, ◌≢◌, ℕ, zero, suc, ◌+◌, ◌-◌, ◌≤◌, Bool, true, false, ◌&&◌, ◌||◌, cond, nat_eq, nat_lt, min, List, [], ◌∷◌, ◌++◌, length, take, filter, slice_get, Option, Some, None}
+use Rattle.std.specs.Prelude.{
+  ◌≡◌,
+  ◌≢◌,
+  ℕ,
+  zero,
+  suc,
+  ◌+◌,
+  ◌-◌,
+  ◌≤◌,
+  Bool,
+  true,
+  false,
+  ◌&&◌,
+  ◌||◌,
+  cond,
+  nat_eq,
+  nat_lt,
+  min,
+  List,
+  [],
+  ◌∷◌,
+  ◌++◌,
+  length,
+  take,
+  filter,
+  slice_get,
+  Option,
+  Some,
+  None,
+}
 use Rattle.std.proofs.Common.{refl, sym, ◌∙◌, ap, subst, arith, append_assoc, append-nil, get_or}
 use Rattle.std.specs.List.{IsDistinct, AllByRecursion, list_any}
 use Rattle.std.proofs.lemmas.Bool.Decides.{nat_tests}
@@ -63,8 +92,10 @@ bounded false p l m = grind (arith, nat_tests)
 pub nearer : (l m : ℕ) (e : Entry) → is_within (Some (min l m)) e ≡ (is_within (Some m) e && stands_before l e.position)
 nearer l m e = bounded (nat_eq e.position base_position) e.position l m
 
-pub filter_nearer : (l m : ℕ) (es : List Entry) → filter (is_within (Some (min l m))) es ≡ filter (λ e. stands_before l e.position) (filter (is_within (Some m)) es)
-filter_nearer l m es = ap (λ (f : Entry → Bool). filter f es) (λ i e. nearer l m e i) ∙ sym (filter-filter (is_within (Some m)) (λ e. stands_before l e.position) es)
+pub filter_nearer : (l m : ℕ) (es : List Entry) → filter (is_within (Some (min l m))) es
+    ≡ filter (λ e. stands_before l e.position) (filter (is_within (Some m)) es)
+filter_nearer l m es = ap (λ (f : Entry → Bool). filter f es) (λ i e. nearer l m e i)
+    ∙ sym (filter-filter (is_within (Some m)) (λ e. stands_before l e.position) es)
 
 pub filter_first : (l : ℕ) (es : List Entry) → filter (is_within (Some l)) es ≡ filter (λ e. stands_before l e.position) (filter (is_within None) es)
 filter_first l es = ap (filter (is_within (Some l))) (sym (filter_all es))
@@ -75,7 +106,8 @@ pub entries_of-append : (ess : List (List Entry)) (es : List Entry) → entries_
 entries_of-append [] es = append-nil es
 entries_of-append (x ∷ ess) es = ap (λ l. x ++ l) (entries_of-append ess es) ∙ sym (append_assoc x (entries_of ess) es)
 
-absent_step : (p : Entry → Bool) (b : Bool) (e : Entry) (xs : List Entry) (n : Path) → has_name n e ≡ false → None ≡ find_entry xs n → None ≡ find_entry (cond b (e ∷ xs) xs) n
+absent_step : (p : Entry → Bool) (b : Bool) (e : Entry) (xs : List Entry) (n : Path) → has_name n e ≡ false → None ≡ find_entry xs n
+    → None ≡ find_entry (cond b (e ∷ xs) xs) n
 absent_step p true e xs n h r = r ∙ ap (λ b. cond b (Some e) (find_entry xs n)) (sym h)
 absent_step p false e xs n h r = r
 
@@ -97,7 +129,8 @@ absent_placed p (e ∷ es) n h k =
     (absent_placed p es n (or_right (has_name n e) (list_any (has_name n) es) h))
 
 -- No entry has a name that the entry in front of them has.
-pub others_apart : (e : Entry) (es : List Entry) (n : Path) → has_name n e ≡ true → AllByRecursion (λ d. same_entry e d ≡ false) es → list_any (has_name n) es ≡ false
+pub others_apart : (e : Entry) (es : List Entry) (n : Path) → has_name n e ≡ true → AllByRecursion (λ d. same_entry e d ≡ false) es
+    → list_any (has_name n) es ≡ false
 others_apart e [] n h a = refl
 others_apart e (d ∷ es) n h a =
     let apart : has_name n d ≡ false =
@@ -105,7 +138,8 @@ others_apart e (d ∷ es) n h a =
     ap (λ b. b || list_any (has_name n) es) apart ∙ others_apart e es n h a.1
 
 -- An entry behind one that differs from all behind it.
-apart_at : (e d : Entry) (es : List Entry) (i : ℕ) (n : Path) → slice_get es i ≡ Some d → has_name n d ≡ true → AllByRecursion (λ d. same_entry e d ≡ false) es → has_name n e ≡ false
+apart_at : (e d : Entry) (es : List Entry) (i : ℕ) (n : Path) → slice_get es i ≡ Some d → has_name n d ≡ true
+    → AllByRecursion (λ d. same_entry e d ≡ false) es → has_name n e ≡ false
 apart_at e d [] i n g h a = cc
 apart_at e d (c ∷ es) zero n g h a =
     let same : c ≡ d = cc in
@@ -114,7 +148,8 @@ apart_at e d (c ∷ es) zero n g h a =
 apart_at e d (c ∷ es) (suc i) n g h a = apart_at e d es i n g h a.1
 
 module _ (p : Entry → Bool) (n : Path) where
-  found_head : (b : Bool) (e : Entry) (xs : List Entry) → has_name n e ≡ true → None ≡ find_entry xs n → cond b (Some e) None ≡ find_entry (cond b (e ∷ xs) xs) n
+  found_head : (b : Bool) (e : Entry) (xs : List Entry) → has_name n e ≡ true → None ≡ find_entry xs n
+      → cond b (Some e) None ≡ find_entry (cond b (e ∷ xs) xs) n
   found_head true e xs h r = ap (λ b. cond b (Some e) (find_entry xs n)) (sym h)
   found_head false e xs h r = r
 
@@ -123,7 +158,8 @@ module _ (p : Entry → Bool) (n : Path) where
   found_tail false e xs h = refl
 
   -- The entry of a name in a list without doubles, where it counts.
-  pub found_at : (es : List Entry) (i : ℕ) (e : Entry) → IsDistinct same_entry es → slice_get es i ≡ Some e → has_name n e ≡ true → cond (p e) (Some e) None ≡ find_entry (filter p es) n
+  pub found_at : (es : List Entry) (i : ℕ) (e : Entry) → IsDistinct same_entry es → slice_get es i ≡ Some e → has_name n e ≡ true
+      → cond (p e) (Some e) None ≡ find_entry (filter p es) n
   found_at [] i e d g h = cc
   found_at (c ∷ es) zero e d g h =
       let same : c ≡ e = cc in
@@ -228,7 +264,8 @@ nearer_limit limit other near l own es ks n some same is =
 
 -- ---- Lists in turn
 
-first_step : (b : Bool) (d e : Entry) (rest more : Option Entry) → (Some e ≡ rest → Some e ≡ more) → Some e ≡ cond b (Some d) rest → Some e ≡ cond b (Some d) more
+first_step : (b : Bool) (d e : Entry) (rest more : Option Entry) → (Some e ≡ rest → Some e ≡ more) → Some e ≡ cond b (Some d) rest
+    → Some e ≡ cond b (Some d) more
 first_step true d e rest more r h = h
 first_step false d e rest more r h = r h
 
@@ -244,7 +281,8 @@ pub found_later : (xs ys : List Entry) (n : Path) → None ≡ find_entry xs n �
 found_later [] ys n h = refl
 found_later (x ∷ xs) ys n h = later_step (has_name n x) x (find_entry xs n) (find_entry (xs ++ ys) n) (find_entry ys n) (found_later xs ys n) h
 
-place_step : (b : Bool) (v w : ℕ × ℕ) (rest more : Option (ℕ × ℕ)) → (Some w ≡ rest → Some w ≡ more) → Some w ≡ cond b (Some v) rest → Some w ≡ cond b (Some v) more
+place_step : (b : Bool) (v w : ℕ × ℕ) (rest more : Option (ℕ × ℕ)) → (Some w ≡ rest → Some w ≡ more) → Some w ≡ cond b (Some v) rest
+    → Some w ≡ cond b (Some v) more
 place_step true v w rest more r h = h
 place_step false v w rest more r h = r h
 
@@ -253,7 +291,8 @@ placed_first k [] ys n v h = cc
 placed_first k (x ∷ xs) ys n v h =
     place_step (has_name n x) (x.position, k) v (placed_from (suc k) xs n) (placed_from (suc k) (xs ++ ys) n) (placed_first (suc k) xs ys n v) h
 
-later_place_step : (b : Bool) (v : ℕ × ℕ) (rest more last : Option (ℕ × ℕ)) → (None ≡ rest → more ≡ last) → None ≡ cond b (Some v) rest → cond b (Some v) more ≡ last
+later_place_step : (b : Bool) (v : ℕ × ℕ) (rest more last : Option (ℕ × ℕ)) → (None ≡ rest → more ≡ last) → None ≡ cond b (Some v) rest
+    → cond b (Some v) more ≡ last
 later_place_step true v rest more last r h = cc
 later_place_step false v rest more last r h = r h
 
@@ -279,7 +318,8 @@ kept_step : (b : Bool) (e d : Entry) (xs : List Entry) → same_entry e d ≡ fa
 kept_step true e d xs h a = (h, a)
 kept_step false e d xs h a = a
 
-kept_apart : (p : Entry → Bool) (e : Entry) (es : List Entry) → AllByRecursion (λ d. same_entry e d ≡ false) es → AllByRecursion (λ d. same_entry e d ≡ false) (filter p es)
+kept_apart : (p : Entry → Bool) (e : Entry) (es : List Entry) → AllByRecursion (λ d. same_entry e d ≡ false) es
+    → AllByRecursion (λ d. same_entry e d ≡ false) (filter p es)
 kept_apart p e [] a = tt
 kept_apart p e (d ∷ es) a = kept_step (p d) e d (filter p es) a.0 (kept_apart p e es a.1)
 
@@ -348,12 +388,14 @@ pub length-base : (cs : List ConstInfo) → length (base_entries cs) ≡ length 
 length-base [] = refl
 length-base (c ∷ cs) = ap suc (length-base cs)
 
-pub base_entries-append : (cs : List ConstInfo) (c : ConstInfo) → base_entries (cs ++ c ∷ []) ≡ base_entries cs ++ record { info = c; position = base_position } ∷ []
+pub base_entries-append : (cs : List ConstInfo) (c : ConstInfo)
+    → base_entries (cs ++ c ∷ []) ≡ base_entries cs ++ record { info = c; position = base_position } ∷ []
 base_entries-append [] c = refl
 base_entries-append (d ∷ cs) c = ap (λ l. record { info = d; position = base_position } ∷ l) (base_entries-append cs c)
 
 -- A name without a place is no entry's.
-free_step : (b s : Bool) (v : ℕ × ℕ) (rest : Option (ℕ × ℕ)) (others : Bool) → s ≡ b → (None ≡ rest → others ≡ false) → None ≡ cond b (Some v) rest → (s || others) ≡ false
+free_step : (b s : Bool) (v : ℕ × ℕ) (rest : Option (ℕ × ℕ)) (others : Bool) → s ≡ b → (None ≡ rest → others ≡ false) → None ≡ cond b (Some v) rest
+    → (s || others) ≡ false
 free_step true s v rest others e r h = cc
 free_step false s v rest others e r h = ap (λ x. x || others) e ∙ r h
 

@@ -28,7 +28,8 @@ opened_by js os n p (Some j) y h g q = absurd (cc)
 opened_by js os n p None (Some o) h g q = record { unjoined = h; header = o; stored = g; placed = cc }
 opened_by js os n p None None h g q = absurd (cc)
 
-each_unjoined : (js es : List Entry) (p : ℕ) (cs : List ConstInfo) → AreBacked js es → All (λ c. find_entry es c.name ≡ None) cs → AllByRecursion (λ e. find_entry js e.info.name ≡ None) (entries_at p cs)
+each_unjoined : (js es : List Entry) (p : ℕ) (cs : List ConstInfo) → AreBacked js es → All (λ c. find_entry es c.name ≡ None) cs
+    → AllByRecursion (λ e. find_entry js e.info.name ≡ None) (entries_at p cs)
 each_unjoined js es p [] backed h = tt
 each_unjoined js es p (c ∷ cs) backed h =
     (not_backed js es backed c.name (h 0 c (omega arith)), each_unjoined js es p cs backed (λ k d l. h (suc k) d (omega arith)))
@@ -40,7 +41,8 @@ module _ (es js os rs fs : List Entry) (q : ℕ) (b : _) (V : View) (v : shown e
 
   pub fresh_helpers : All (λ c. find_entry es c.name ≡ None) helpers
   fresh_helpers =
-      let told : All (λ c. find_entry V.entries c.name ≡ None) helpers = subst (All (λ (c : ConstInfo). find_entry V.entries c.name ≡ None)) (sym same.0) can.fresh in
+      let told : All (λ c. find_entry V.entries c.name ≡ None) helpers =
+      subst (All (λ (c : ConstInfo). find_entry V.entries c.name ≡ None)) (sym same.0) can.fresh in
       λ k d l.
       let n = (get_or helpers k d).name in
       unmapped (settled js) (find_entry es n) (sym (settled_find js es n) ∙ ap (λ s. find_entry s.entries n) v ∙ told k d l)
@@ -67,7 +69,8 @@ module _ (es js os rs fs : List Entry) (q : ℕ) (b : _) (V : View) (v : shown e
   joined_view =
       let old : View = shown es js os rs fs q b in
       let grown : List Entry = map (settled js) es ++ entries_at p helpers in
-      ap (λ l. record old { entries = l; branches = map branch_of (filter (is_open (js ++ settling ∷ [])) os) }) (settled_joined js header p opened.unjoined (es ++ entries_at p helpers))
+      ap (λ l. record old { entries = l; branches = map branch_of (filter (is_open (js ++ settling ∷ [])) os) })
+      (settled_joined js header p opened.unjoined (es ++ entries_at p helpers))
       ∙ ap (λ l. record old { entries = map (with_constant header) l; branches = map branch_of (filter (is_open (js ++ settling ∷ [])) os) })
       (settled_more js es (entries_at p helpers) (each_unjoined js es p helpers (backed_through js os es jo oe) fresh_helpers))
       ∙ ap (λ l. record old { entries = map (with_constant header) grown; branches = l }) (open_joined js header p opened.unjoined os)

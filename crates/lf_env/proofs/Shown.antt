@@ -13,7 +13,8 @@ use Rattle.lf_env.proofs.Entries.{IsDistinct-pushed}
 
 -- ---- One list of entries
 
-name_step : (b : Bool) (d e : Entry) (n : Path) (rest : Option Entry) → same_path d.info.name n ≡ b → (rest ≡ Some e → e.info.name ≡ n) → cond b (Some d) rest ≡ Some e → e.info.name ≡ n
+name_step : (b : Bool) (d e : Entry) (n : Path) (rest : Option Entry) → same_path d.info.name n ≡ b → (rest ≡ Some e → e.info.name ≡ n)
+    → cond b (Some d) rest ≡ Some e → e.info.name ≡ n
 name_step true d e n rest q r h = let same : d ≡ e = cc in ap (λ (x : Entry). x.info.name) (sym same) ∙ path_is d.info.name n q
 name_step false d e n rest q r h = r h
 
@@ -21,7 +22,8 @@ pub found_named : (es : List Entry) (n : Path) (e : Entry) → find_entry es n �
 found_named [] n e h = cc
 found_named (d ∷ es) n e h = name_step (same_path d.info.name n) d e n (find_entry es n) refl (found_named es n e) h
 
-unplaced_step : (b : Bool) (d : Entry) (v : ℕ × ℕ) (rest : Option Entry) (more : Option (ℕ × ℕ)) → (rest ≡ None → more ≡ None) → cond b (Some d) rest ≡ None → cond b (Some v) more ≡ None
+unplaced_step : (b : Bool) (d : Entry) (v : ℕ × ℕ) (rest : Option Entry) (more : Option (ℕ × ℕ)) → (rest ≡ None → more ≡ None) → cond b (Some d) rest ≡ None
+    → cond b (Some v) more ≡ None
 unplaced_step true d v rest more r h = cc
 unplaced_step false d v rest more r h = r h
 
@@ -29,7 +31,8 @@ pub unplaced : (k : ℕ) (es : List Entry) (n : Path) → find_entry es n ≡ No
 unplaced k [] n h = refl
 unplaced k (d ∷ es) n h = unplaced_step (same_path d.info.name n) d (d.position, k) (find_entry es n) (placed_from (suc k) es n) (unplaced (suc k) es n) h
 
-unfound_step : (b : Bool) (d : Entry) (v : ℕ × ℕ) (rest : Option Entry) (more : Option (ℕ × ℕ)) → (more ≡ None → rest ≡ None) → cond b (Some v) more ≡ None → cond b (Some d) rest ≡ None
+unfound_step : (b : Bool) (d : Entry) (v : ℕ × ℕ) (rest : Option Entry) (more : Option (ℕ × ℕ)) → (more ≡ None → rest ≡ None) → cond b (Some v) more ≡ None
+    → cond b (Some d) rest ≡ None
 unfound_step true d v rest more r h = cc
 unfound_step false d v rest more r h = r h
 
@@ -56,7 +59,8 @@ settled_position joined e = at (find_entry joined e.info.name)
     at (Some j) = refl
     at None = refl
 
-find_step : (b : Bool) (f : Entry → Entry) (e : Entry) (rest more : Option Entry) → rest ≡ option_map f more → cond b (Some (f e)) rest ≡ option_map f (cond b (Some e) more)
+find_step : (b : Bool) (f : Entry → Entry) (e : Entry) (rest more : Option Entry) → rest ≡ option_map f more
+    → cond b (Some (f e)) rest ≡ option_map f (cond b (Some e) more)
 find_step true f e rest more h = refl
 find_step false f e rest more h = h
 
@@ -78,7 +82,8 @@ first_of (Some j) o = Some j
 first_of None o = o
 
 -- The entry of a name: of those that were joined, or else of those that were pushed.
-pub entry_found : (joined es : List Entry) → AreBacked joined es → (n : Path) → find_entry (map (settled joined) es) n ≡ first_of (find_entry joined n) (find_entry es n)
+pub entry_found : (joined es : List Entry) → AreBacked joined es → (n : Path)
+    → find_entry (map (settled joined) es) n ≡ first_of (find_entry joined n) (find_entry es n)
 entry_found joined es backed n = settled_find joined es n ∙ at (find_entry joined n) refl
   where
     at_settled : (o : Option Entry) (d : Entry) → find_entry joined n ≡ o → find_entry es n ≡ Some d → settled joined d ≡ settled_by d o
@@ -101,10 +106,13 @@ open_at (Some j) o = None
 open_at None (Some e) = Some e.position
 open_at None None = None
 
-branch_step : (joined : List Entry) (n : Path) (b c : Bool) (e : Entry) (es : List Entry) (rest : Option Entry) → same_path e.info.name n ≡ b → is_none (find_entry joined e.info.name) ≡ c
-    → find_branch (map branch_of es) n ≡ open_at (find_entry joined n) rest → find_branch (map branch_of (cond c (e ∷ es) es)) n ≡ open_at (find_entry joined n) (cond b (Some e) rest)
+branch_step : (joined : List Entry) (n : Path) (b c : Bool) (e : Entry) (es : List Entry) (rest : Option Entry) → same_path e.info.name n ≡ b
+    → is_none (find_entry joined e.info.name) ≡ c
+    → find_branch (map branch_of es) n ≡ open_at (find_entry joined n) rest
+    → find_branch (map branch_of (cond c (e ∷ es) es)) n ≡ open_at (find_entry joined n) (cond b (Some e) rest)
 branch_step joined n true true e es rest q o r =
-    ap (λ t. cond t (Some e.position) (find_branch (map branch_of es) n)) q ∙ sym (at (find_entry joined n) (ap (λ m. is_none (find_entry joined m)) (sym (path_is e.info.name n q)) ∙ o))
+    ap (λ t. cond t (Some e.position) (find_branch (map branch_of es) n)) q
+    ∙ sym (at (find_entry joined n) (ap (λ m. is_none (find_entry joined m)) (sym (path_is e.info.name n q)) ∙ o))
   where
     at : (x : Option Entry) → is_none x ≡ true → open_at x (Some e) ≡ Some e.position
     at (Some j) h = cc
@@ -117,7 +125,8 @@ branch_step joined n true false e es rest q o r = r ∙ at (find_entry joined n)
 branch_step joined n false true e es rest q o r = ap (λ t. cond t (Some e.position) (find_branch (map branch_of es) n)) q ∙ r
 branch_step joined n false false e es rest q o r = r
 
-pub branch_found : (joined es : List Entry) (n : Path) → find_branch (map branch_of (filter (is_open joined) es)) n ≡ open_at (find_entry joined n) (find_entry es n)
+pub branch_found : (joined es : List Entry) (n : Path)
+    → find_branch (map branch_of (filter (is_open joined) es)) n ≡ open_at (find_entry joined n) (find_entry es n)
 branch_found joined [] n = at (find_entry joined n)
   where
     at : (x : Option Entry) → None ≡ open_at x None

@@ -59,7 +59,7 @@ impl Listing {
     }
 
     /// The allocator.
-    pub fn alloc(&self) -> Global {
+    pub(crate) fn alloc(&self) -> Global {
         *self.layers.allocator()
     }
 

@@ -1,7 +1,32 @@
 ghost use Rattle.std.specs.Prelude.{◌≡◌, None, IfOk, OnOk, OnErr, map, [], ◌∷◌};
 ghost use Rattle.std.specs.Option.{option_copied};
 ghost use Rattle.lf_checker.specs.View as view;
-ghost use Rattle.lf_checker.specs.View.{find_entry, find_branch, placed_of, lookup_of, body_of, value_of, known_body, by_suffix, by_parent, by_entry, answer_of, parent_of, branch_over as branch_over_of, value_in as value_in_view, origin_of, entries_before, failed_before, base_view, pushed, opened_branch, joined_branch, answered, view_at, view_real_at};
+ghost use Rattle.lf_checker.specs.View.{
+  find_entry,
+  find_branch,
+  placed_of,
+  lookup_of,
+  body_of,
+  value_of,
+  known_body,
+  by_suffix,
+  by_parent,
+  by_entry,
+  answer_of,
+  parent_of,
+  branch_over as branch_over_of,
+  value_in as value_in_view,
+  origin_of,
+  entries_before,
+  failed_before,
+  base_view,
+  pushed,
+  opened_branch,
+  joined_branch,
+  answered,
+  view_at,
+  view_real_at,
+};
 ghost use Rattle.lf_core.specs.Suffix.{suffix_of};
 ghost use Rattle.lf_env.specs.Answer.{DistinctNames, IsKnown, Shows, CanJoin, CanAnswer, HasEntryAt, told};
 ghost use Rattle.lf_env.specs.Layer.{failed_of, narrowed as narrowed_view};

@@ -12,7 +12,7 @@ use crate::names::{Refusal, is_declared};
 use crate::parse::{after_colon, after_identifier, term};
 use crate::token::Token;
 use crate::typing::{CheckCx, infer};
-use lf_core::{Ans, ConstInfo, ConstKind, Detail, Expr, ExprNode, Name, NoMemory, discard};
+use lf_core::{Ans, ConstInfo, ConstKind, Detail, Expr, ExprNode, Name, NoMemory};
 use sqlite_items::Items;
 use std::alloc::Global;
 
@@ -92,7 +92,7 @@ fn is_type(alloc: Global, constants: &[ConstInfo], ty: &Expr) -> Result<bool, No
     match infer(alloc, &mut cx, ty) {
         Ans::Done(sort) => {
             let yes = is_sort(&sort);
-            discard(sort);
+            drop(sort);
             Ok(yes)
         }
         Ans::NoMemory => Err(NoMemory),
@@ -112,7 +112,7 @@ fn typed_axiom<'t>(
     ensures { ReadsOne result (reader.typed_axiom name.now ty rest.now (type_of constants.now [] ty)) }
 {
     if !is_type(alloc, constants, &ty)? {
-        discard(ty);
+        drop(ty);
         return Err(Refusal::NotBuilt);
     }
     Ok((axiom_of(alloc, name, ty)?, rest))
@@ -129,7 +129,7 @@ fn read_axiom<'t>(
 {
     let (ty, rest) = axiom_term(alloc, constants, tokens)?;
     if ty.depth() > 1024 {
-        discard(ty);
+        drop(ty);
         return Err(Refusal::NotBuilt);
     }
     typed_axiom(alloc, constants, name, ty, rest)

@@ -7,7 +7,7 @@ ghost use Rattle.lf_front.specs.Parser.{Parses, IsRest, IsNumber, IsHead, GivesT
 
 use crate::names::{Local, Refusal, extended, named_by};
 use crate::token::Token;
-use lf_core::{Binder, BinderKind, ConstInfo, Expr, Level, Name, NoMemory, discard};
+use lf_core::{Binder, BinderKind, ConstInfo, Expr, Level, Name, NoMemory};
 use std::alloc::Global;
 
 fn after_open(tokens: &[Token]) -> Option<&[Token]>
@@ -132,7 +132,7 @@ fn closed(term: Expr, tokens: &[Token]) -> Result<(Expr, &[Token]), Refusal>
     match after_close(tokens) {
         Some(rest) => Ok((term, rest)),
         None => {
-            discard(term);
+            drop(term);
             Err(Refusal::NotBuilt)
         }
     }
@@ -222,14 +222,14 @@ fn for_all<'t>(
     };
     let (domain, rest) = term(alloc, constants, locals, depth, rest)?;
     let Some(rest) = after_group(rest) else {
-        discard(domain);
+        drop(domain);
         return Err(Refusal::NotBuilt);
     };
     let local = Local::Named(name.copy(alloc)?);
     match inside(alloc, constants, locals, local, depth, rest) {
         Ok((body, rest)) => Ok((make_forall(alloc, name, domain, body)?, rest)),
         Err(refusal) => {
-            discard(domain);
+            drop(domain);
             Err(refusal)
         }
     }
@@ -270,7 +270,7 @@ fn arrows<'t>(
     match inside(alloc, constants, locals, Local::Unnamed, depth, rest) {
         Ok((codomain, rest)) => Ok((make_arrow(alloc, domain, codomain)?, rest)),
         Err(refusal) => {
-            discard(domain);
+            drop(domain);
             Err(refusal)
         }
     }

@@ -1,8 +1,54 @@
 //! The tokens of a text of axioms.
-ghost use Rattle.std.specs.Prelude.{◌≡◌, ℕ, ◌+◌, ◌≤◌, ◌<◌, length, drop, slice_index, true, false, IfOk, IfSome, IfNone, OnOk, IsTrue, ◌&&◌, ◌++◌, ◌∷◌, [], nat_le, string_bytes};
+ghost use Rattle.std.specs.Prelude.{
+  ◌≡◌,
+  ℕ,
+  ◌+◌,
+  ◌≤◌,
+  ◌<◌,
+  length,
+  drop,
+  slice_index,
+  true,
+  false,
+  IfOk,
+  IfSome,
+  IfNone,
+  OnOk,
+  IsTrue,
+  ◌&&◌,
+  ◌++◌,
+  ◌∷◌,
+  [],
+  nat_le,
+  string_bytes,
+};
 ghost use Rattle.std.specs.List.{list_all, list_any, prefix_len};
 ghost use Rattle.std.specs.Str.{bytes_eq};
-ghost use Rattle.lf_front.specs.Lexemes.{starts, goes_on, goes_over, part_next, is_lexeme, is_digit, is_white, is_ascii, command_words, left_out_words, more_left_out_words, other_words, is_one_of, is_reserved, parts_of, value_after, number_token, symbol_token, word_token, token_of, past_white, IsLongest, Tokens};
+ghost use Rattle.lf_front.specs.Lexemes.{
+  starts,
+  goes_on,
+  goes_over,
+  part_next,
+  is_lexeme,
+  is_digit,
+  is_white,
+  is_ascii,
+  command_words,
+  left_out_words,
+  more_left_out_words,
+  other_words,
+  is_one_of,
+  is_reserved,
+  parts_of,
+  value_after,
+  number_token,
+  symbol_token,
+  word_token,
+  token_of,
+  past_white,
+  IsLongest,
+  Tokens,
+};
 ghost use Rattle.lf_front.specs.Scan.{tail_len, symbol_len};
 
 use lf_core::{Name, NoMemory, Word};

@@ -10,7 +10,7 @@ ghost use Rattle.lf_front.specs.Infer as spec;
 ghost use Rattle.lf_front.specs.Answers.{Tells, Answers, IfDone, IsShallow};
 
 use crate::fault::{Halt, TypeFault};
-use lf_core::{Ans, ConstInfo, Expr, ExprNode, Level, Name, NoMemory, discard};
+use lf_core::{Ans, ConstInfo, Expr, ExprNode, Level, Name, NoMemory};
 use lf_subst::{SubstFault, instantiate, level_inst};
 use std::alloc::Global;
 
@@ -205,7 +205,7 @@ fn codomain_type(
     let body = open(alloc, variable, body)?;
     let all = with(alloc, locals, domain)?;
     let ty = type_at(alloc, consts, all.as_slice(), depth, &body);
-    discard(body);
+    drop(body);
     ty
 }
 

@@ -11,7 +11,68 @@ use Rattle.lf_text.specs.declared.word.Spelling.{Spelling}
 use Rattle.lf_syntax.specs.Piece as piece
 use Rattle.lf_text.specs.declared.word.Word.{Word}
 use Rattle.lf_syntax.specs.Piece.{Class, Piece, word_code}
-use Rattle.lf_syntax.specs.Symbol.{Symbol, Tree, arguments_to, any_name, any_names, arguments, arrow_token, binder, binder_end, binder_name, binder_names, block, command, ctors, def_rest, group, group_close, group_end, group_names, helper, helpers, imax_rest, implicit_end, item, lambda_binder, lambda_binders, level, level_atom, level_atoms, level_names, max_rest, more_helpers, more_items, more_level_names, more_levels, more_rules, number_token, one_part, one_parts, operators, optional_name, parameters, plus_option, rw_rule, term, token, type_option, where_option, written_levels, alternatives, axioms_word, bracket, bracket_name, def_body, field, fields_option, more_fields, numeral_one, pattern, pattern_rest}
+use Rattle.lf_syntax.specs.Symbol.{
+  Symbol,
+  Tree,
+  arguments_to,
+  any_name,
+  any_names,
+  arguments,
+  arrow_token,
+  binder,
+  binder_end,
+  binder_name,
+  binder_names,
+  block,
+  command,
+  ctors,
+  def_rest,
+  group,
+  group_close,
+  group_end,
+  group_names,
+  helper,
+  helpers,
+  imax_rest,
+  implicit_end,
+  item,
+  lambda_binder,
+  lambda_binders,
+  level,
+  level_atom,
+  level_atoms,
+  level_names,
+  max_rest,
+  more_helpers,
+  more_items,
+  more_level_names,
+  more_levels,
+  more_rules,
+  number_token,
+  one_part,
+  one_parts,
+  operators,
+  optional_name,
+  parameters,
+  plus_option,
+  rw_rule,
+  term,
+  token,
+  type_option,
+  where_option,
+  written_levels,
+  alternatives,
+  axioms_word,
+  bracket,
+  bracket_name,
+  def_body,
+  field,
+  fields_option,
+  more_fields,
+  numeral_one,
+  pattern,
+  pattern_rest,
+}
 use Rattle.lf_syntax.specs.Row.{Prod, then, if_true, first_row}
 use Rattle.lf_syntax.specs.Build.{is_underscore, underscore_at}
 use Rattle.lf_syntax.specs.Rows.{group_names_rows_by}
@@ -60,7 +121,8 @@ abbrev Follows : {V : Type 0} → Option (Prod V) → List Piece → List Piece 
 Follows (Some p) ts us = Reads grammar p.body ts us
 Follows None ts us = ⊥
 
-took_by : (x : Symbol) (t : Piece) (ts us : List Piece) (o : Option (Prod (Tree x))) → grammar.begin x t ≡ o → Follows o ts us → Reads grammar (x ∷ []) (t ∷ ts) us
+took_by : (x : Symbol) (t : Piece) (ts us : List Piece) (o : Option (Prod (Tree x))) → grammar.begin x t ≡ o → Follows o ts us
+    → Reads grammar (x ∷ []) (t ∷ ts) us
 took_by x t ts us (Some p) e b = taken t p e b nothing
 took_by x t ts us None e b = absurd b
 
@@ -357,14 +419,16 @@ finish_helper ts h =
     let c : List Piece = of_word words.Underscore ∷ b in
     let d : List Piece = of_word words.Colon ∷ c in
     took helper (of_name spelt.Plain) d ts
-    (both (leave_parameters d (colon_behind c)) (both (take_token words.Colon c) (both (take_term 0 b (closed c_assign a)) (both (take_token words.Assign a) (take_term 0 ts h)))))
+    (both (leave_parameters d (colon_behind c)) (both (take_token words.Colon c)
+    (both (take_term 0 b (closed c_assign a)) (both (take_token words.Assign a) (take_term 0 ts h)))))
 
 group_names_close : (b : Bool) (at : ℕ) (before : List Ident) (x : Ident) (ts : List Piece) → Calm true ts →
     Follows (first_row (group_names_rows_by b at before x) (piece.word words.RightParen) 0) ts ts
 group_names_close true at before x ts h = leave_arguments ts h
 group_names_close false at before x ts h = leave_arguments ts h
 
-finish_group_names : (at : ℕ) (before : List Ident) (x : Ident) (ts : List Piece) → Calm true ts → Reads grammar (group_names at before x ∷ []) (of_word words.RightParen ∷ ts) ts
+finish_group_names : (at : ℕ) (before : List Ident) (x : Ident) (ts : List Piece) → Calm true ts
+    → Reads grammar (group_names at before x ∷ []) (of_word words.RightParen ∷ ts) ts
 finish_group_names at before x ts h =
     took (group_names at before x) (of_word words.RightParen) ts ts (group_names_close (is_underscore x.name) at before x ts h)
 
@@ -409,7 +473,9 @@ finish level_atom ts h = took level_atom (record { class = piece.number 0 1; at 
 finish level_atoms ts h = leave_level_atoms ts h
 finish (max_rest x) ts h = leave_max_rest x ts h
 finish (imax_rest x) ts h = leave_imax_rest x ts h
-finish block ts h = took block (of_word words.LayoutOpen) (of_name spelt.Rfl ∷ of_word words.LayoutClose ∷ ts) ts (both (took item (of_name spelt.Rfl) (of_word words.LayoutClose ∷ ts) (of_word words.LayoutClose ∷ ts) nothing) (took more_items (of_word words.LayoutClose) ts ts nothing))
+finish block ts h = took block (of_word words.LayoutOpen) (of_name spelt.Rfl ∷ of_word words.LayoutClose ∷ ts) ts
+    (both (took item (of_name spelt.Rfl) (of_word words.LayoutClose ∷ ts) (of_word words.LayoutClose ∷ ts) nothing)
+    (took more_items (of_word words.LayoutClose) ts ts nothing))
 finish more_items ts h = took more_items (of_word words.LayoutClose) ts ts nothing
 finish item ts h = took item (of_name spelt.Rfl) ts ts nothing
 finish rw_rule ts h = took rw_rule (of_word words.Underscore) ts ts (both (leave_arguments ts h) (leave_operators 0 100 ts h))

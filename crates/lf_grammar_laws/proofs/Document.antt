@@ -107,7 +107,8 @@ abbrev Always : (g : Grammar) {R : Type 0} → (R → Type 0) → (xs : List g.S
 Always g P [] r = P r
 Always g P (x ∷ xs) f = (v : g.Tree x) → Always g P xs (f v)
 
-tree_is : (g : Grammar) {R : Type 0} (P : R → Type 0) {xs : List g.S} {ts rest : List g.T} (d : Reads g xs ts rest) (f : Takes g.Tree xs R) → Always g P xs f → P (tree d f)
+tree_is : (g : Grammar) {R : Type 0} (P : R → Type 0) {xs : List g.S} {ts rest : List g.T} (d : Reads g xs ts rest) (f : Takes g.Tree xs R) → Always g P xs f
+    → P (tree d f)
 tree_is g P nothing f h = h
 tree_is g P (left_out v e q d) f h = tree_is g P d (f v) (h v)
 tree_is g P (taken t p e b d) f h = tree_is g P d (f (tree b p.build)) (h (tree b p.build))
@@ -121,7 +122,38 @@ defined_good d (by_value v hs) = tt
 defined_good d (by_alternatives more) = tt
 
 commands_good : InRows (λ (p : Prod Command). Always grammar IsGood p.body p.build) command_rows
-commands_good = (λ at x ls bs u ty. tt, (λ at x ls bs d. defined_good (decl_of at x ls bs d.ty) d.body, (λ at x ls bs u ty v e hs. tt, (λ at x ls bs ty u cs. tt, (λ at x ls bs ty fs. tt, (λ at x ls bs ty fs. tt, (λ at x ls bs u ty v t. tt, (λ at x. tt, (λ at x. tt, (λ at x. tt, (λ at x xs. tt, (λ at x xs. tt, (λ at b bs. tt, (λ at t. tt, (λ at t. tt, (λ at u x. tt, tt))))))))))))))))
+commands_good = (
+  λ at x ls bs u ty. tt,
+  (
+    λ at x ls bs d.
+        defined_good (decl_of at x ls bs d.ty) d.body,
+    (
+      λ at x ls bs u ty v e hs. tt,
+      (
+        λ at x ls bs ty u cs.
+            tt,
+        (
+          λ at x ls bs ty fs. tt,
+          (
+            λ at x ls bs ty fs.
+                tt,
+            (
+              λ at x ls bs u ty v t. tt,
+              (
+                λ at x. tt,
+                (
+                  λ at x.
+                      tt,
+                  (λ at x. tt, (λ at x xs. tt, (λ at x xs. tt, (λ at b bs. tt, (λ at t. tt, (λ at t. tt, (λ at u x. tt, tt))))))),
+                ),
+              ),
+            ),
+          ),
+        ),
+      ),
+    ),
+  ),
+)
 
 reads_good : (ts rest : List Piece) (d : Reads grammar (command ∷ []) ts rest) → IsGood (tree d (λ c. c))
 reads_good ts rest (left_out v e q d) = cc

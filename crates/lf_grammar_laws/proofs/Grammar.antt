@@ -1,5 +1,26 @@
 -- The laws for the grammar of commands.
-use Rattle.std.proofs.Common.{◌≡◌, List, [], ◌∷◌, ◌++◌, Bool, true, false, not, ◌&&◌, ◌||◌, Some, refl, sym, ap, ◌∙◌, subst, true≢false, append_assoc, append-nil}
+use Rattle.std.proofs.Common.{
+  ◌≡◌,
+  List,
+  [],
+  ◌∷◌,
+  ◌++◌,
+  Bool,
+  true,
+  false,
+  not,
+  ◌&&◌,
+  ◌||◌,
+  Some,
+  refl,
+  sym,
+  ap,
+  ◌∙◌,
+  subst,
+  true≢false,
+  append_assoc,
+  append-nil,
+}
 use Rattle.lf_syntax.specs.Predictive.{Reads}
 use Rattle.lf_syntax.specs.Piece.{Piece}
 use Rattle.lf_syntax.specs.Symbol.{Symbol, Tree, command}
@@ -33,14 +54,19 @@ implied false b e f = absurd (true≢false (sym f))
 -- What serves in a symbol's place is settled where the symbol was.
 serves_next : (a : Asks) (xs : List Symbol) (n : Next) → serves a xs ≡ true → allows a n ≡ true → settled xs n ≡ true
 serves_next a xs at_end h e =
-    implied (allows a at_end) (settled xs at_end) (and_left _ (not (allows a closer) || settled xs closer) (and_left _ (not (allows a at_colon) || settled xs at_colon) (and_left _ (not (allows a other) || settled xs other) h))) e
+    implied (allows a at_end) (settled xs at_end) (and_left _ (not (allows a closer) || settled xs closer)
+    (and_left _ (not (allows a at_colon) || settled xs at_colon) (and_left _ (not (allows a other) || settled xs other) h))) e
 serves_next a xs closer h e =
-    implied (allows a closer) (settled xs closer) (and_right (not (allows a at_end) || settled xs at_end) _ (and_left _ (not (allows a at_colon) || settled xs at_colon) (and_left _ (not (allows a other) || settled xs other) h))) e
+    implied (allows a closer) (settled xs closer) (and_right (not (allows a at_end) || settled xs at_end) _
+    (and_left _ (not (allows a at_colon) || settled xs at_colon) (and_left _ (not (allows a other) || settled xs other) h))) e
 serves_next a xs at_colon h e =
-    implied (allows a at_colon) (settled xs at_colon) (and_right ((not (allows a at_end) || settled xs at_end) && (not (allows a closer) || settled xs closer)) _ (and_left _ (not (allows a other) || settled xs other) h)) e
+    implied (allows a at_colon) (settled xs at_colon)
+    (and_right ((not (allows a at_end) || settled xs at_end) && (not (allows a closer) || settled xs closer)) _
+    (and_left _ (not (allows a other) || settled xs other) h)) e
 serves_next a xs other h e =
     implied (allows a other) (settled xs other)
-    (and_right ((not (allows a at_end) || settled xs at_end) && (not (allows a closer) || settled xs closer) && (not (allows a at_colon) || settled xs at_colon)) _ h) e
+    (and_right ((not (allows a at_end) || settled xs at_end) && (not (allows a closer) || settled xs closer)
+    && (not (allows a at_colon) || settled xs at_colon)) _ h) e
 
 next_append : (xs ys : List Symbol) → next (xs ++ ys) at_end ≡ next xs (next ys at_end)
 next_append [] ys = refl
@@ -53,7 +79,8 @@ settled_append (x ∷ xs) ys e f =
     (ap (allows (asks x)) (next_append xs ys) ∙ and_left (allows (asks x) (next xs (next ys at_end))) (settled xs (next ys at_end)) e)
     (settled_append xs ys (and_right (allows (asks x) (next xs (next ys at_end))) (settled xs (next ys at_end)) e) f)
 
-push : (x : Symbol) (xs : List Symbol) (t : Piece) (p : Prod (Tree x)) → settled (x ∷ xs) at_end ≡ true → grammar.begin x t ≡ Some p → settled (p.body ++ xs) at_end ≡ true
+push : (x : Symbol) (xs : List Symbol) (t : Piece) (p : Prod (Tree x)) → settled (x ∷ xs) at_end ≡ true → grammar.begin x t ≡ Some p
+    → settled (p.body ++ xs) at_end ≡ true
 push x xs t p h e =
     settled_append p.body xs
     (serves_next (asks x) p.body (next xs at_end) (body_serves x t.class t.at p e) (and_left (allows (asks x) (next xs at_end)) (settled xs at_end) h))
@@ -101,7 +128,11 @@ completable ts h = begins_by ts (answer_of (outcome ts)) (machine_by ts (outcome
 
 -- What begins a command begins one with fewer tokens.
 begins_before : (xs ys : List Piece) → Begins (xs ++ ys) → Begins xs
-begins_before xs ys b = record { more = ys ++ b.more; reads = subst (λ (us : List Piece). Reads grammar (command ∷ []) us []) (append_assoc xs ys b.more) b.reads }
+begins_before xs ys b = record {
+  more = ys ++ b.more;
+  reads =
+      subst (λ (us : List Piece). Reads grammar (command ∷ []) us []) (append_assoc xs ys b.more) b.reads;
+}
 
 -- The tokens before and through a bad one, behind some that were read.
 one_split : (p b c last more : List Piece) (t u : Piece) (us vs : List Piece) → b ++ last ≡ c ++ more → last ≡ t ∷ us → more ≡ u ∷ vs →

@@ -7,21 +7,92 @@ use Rattle.lf_syntax.specs.declared.command.Decl.{Decl}
 use Rattle.lf_name.specs.declared.binder.BinderKind.TheVariants.{Inst}
 use Rattle.lf_text.specs.declared.operator.Op.{Op}
 use Rattle.lf_text.specs.declared.operator.Op.TheVariants.{Iff, Arrow, Or, And, Eq, Ne, Add, Sub, Mul, Div, Mod}
-use Rattle.lf_syntax.specs.Tree.{LevelTree, TermTree, ident, hole, type_u, sort_u, paren, oper, not_term, option_of, terms_of, LBinderTree, binders_of, ItemTree, items_of, RuleTree, rules_of, rule, place}
+use Rattle.lf_syntax.specs.Tree.{
+  LevelTree,
+  TermTree,
+  ident,
+  hole,
+  type_u,
+  sort_u,
+  paren,
+  oper,
+  not_term,
+  option_of,
+  terms_of,
+  LBinderTree,
+  binders_of,
+  ItemTree,
+  items_of,
+  RuleTree,
+  rules_of,
+  rule,
+  place,
+}
 use Rattle.lf_text.specs.Operators.{op_level, left_of, right_of}
 use Rattle.lf_syntax.specs.Levels.{takes, operand_level, not_level}
 use Rattle.lf_syntax.specs.Predictive.{Takes, join, Reads, nothing, left_out, taken, tree}
 use Rattle.lf_syntax.specs.Piece.{Piece}
 use Rattle.lf_syntax.specs.Symbol as symbol
 use Rattle.lf_syntax.specs.Symbol.{Symbol, Tree, Spine, GroupEnd, BinderEnd, arrow_to, arguments_to, DefRest, DefBody, by_value, by_alternatives, command}
-use Rattle.lf_syntax.specs.Build.{with_arguments, applied, chain, names_spine, name_term, spine_of, group_of, close_of, sort_spine, sort_or_none, level_of, is_underscore, underscore_at}
+use Rattle.lf_syntax.specs.Build.{
+  with_arguments,
+  applied,
+  chain,
+  names_spine,
+  name_term,
+  spine_of,
+  group_of,
+  close_of,
+  sort_spine,
+  sort_or_none,
+  level_of,
+  is_underscore,
+  underscore_at,
+}
 use Rattle.lf_syntax.specs.Row.{Row, Prod, then, on_word, on_name, on_one_part, on_spelling, on_number, on_digit, on_operator, begins_as}
-use Rattle.lf_syntax.specs.Rows.{rows, without, implicit_binder, binders_at, unnamed, defined, decl_of, bracket_name_rows, written_levels_rows, name_levels_rows, operand_rows, term_rows, argument_rows, operator_rows, group_end_rows, group_names_rows_by}
+use Rattle.lf_syntax.specs.Rows.{
+  rows,
+  without,
+  implicit_binder,
+  binders_at,
+  unnamed,
+  defined,
+  decl_of,
+  bracket_name_rows,
+  written_levels_rows,
+  name_levels_rows,
+  operand_rows,
+  term_rows,
+  argument_rows,
+  operator_rows,
+  group_end_rows,
+  group_names_rows_by,
+}
 use Rattle.lf_text.specs.declared.word.Word.TheVariants as words
 use Rattle.lf_syntax.specs.Grammar.{grammar}
 use Rattle.lf_grammar_laws.specs.Laws.{LevelsKept}
 use Rattle.lf_grammar_laws.proofs.Found.{InRows, found}
-use Rattle.lf_grammar_laws.specs.Leveled.{term_level, Leveled, OptionLeveled, ArgumentsLeveled, LambdaLeveled, LambdasLeveled, ItemLeveled, ItemsLeveled, RuleLeveled, RulesLeveled, All, IfAny, GroupLeveled, HelperLeveled, CtorLeveled, FieldLeveled, AlternativeLeveled, DeclLeveled, CommandLeveled}
+use Rattle.lf_grammar_laws.specs.Leveled.{
+  term_level,
+  Leveled,
+  OptionLeveled,
+  ArgumentsLeveled,
+  LambdaLeveled,
+  LambdasLeveled,
+  ItemLeveled,
+  ItemsLeveled,
+  RuleLeveled,
+  RulesLeveled,
+  All,
+  IfAny,
+  GroupLeveled,
+  HelperLeveled,
+  CtorLeveled,
+  FieldLeveled,
+  AlternativeLeveled,
+  DeclLeveled,
+  CommandLeveled,
+}
 
 -- Terms that can be a head or an argument.
 abbrev Operand : TermTree → Type 0
@@ -33,7 +104,8 @@ SpineFits s = Operand s.head × All Operand s.arguments
 -- Operators behind a term of this level, in a chain of at least the other.
 abbrev Chained : ℕ → ℕ → List (Op × TermTree) → Type 0
 Chained least left [] = Unit {0}
-Chained least left (o ∷ more) = (least ≤ op_level o.0) × (left_of o.0 ≤ left) × Leveled o.1 × (right_of o.0 ≤ term_level o.1) × Chained least (op_level o.0) more
+Chained least left (o ∷ more) = (least ≤ op_level o.0) × (left_of o.0 ≤ left) × Leveled o.1 × (right_of o.0 ≤ term_level o.1)
+    × Chained least (op_level o.0) more
 
 op_at_most : (o : Op) → op_level o ≤ operand_level
 op_at_most Iff = omega arith
@@ -211,7 +283,8 @@ sort_by : (make : Option LevelTree → TermTree) → ((l : Option LevelTree) →
 sort_by make m t ts (Some l) f g = (m (Some l), g)
 sort_by make m t ts None f g = (m None, (f, g))
 
-sort_fits : (make : Option LevelTree → TermTree) → ((l : Option LevelTree) → Operand (make l)) → (ts : List TermTree) → All Operand ts → SpineFits (sort_spine make ts)
+sort_fits : (make : Option LevelTree → TermTree) → ((l : Option LevelTree) → Operand (make l)) → (ts : List TermTree) → All Operand ts
+    → SpineFits (sort_spine make ts)
 sort_fits make m [] g = (m None, tt)
 sort_fits make m (t ∷ ts) g = sort_by make m t ts (level_of t true) g.0 g.1
 
@@ -242,7 +315,11 @@ operands_fit = (
                         λ at x _ ty fty _ _ v fv _ _ t ft. (((option_fits ty fty, fv.0, ft.0), least_operand), tt),
                         (
                           λ at items f. ((items_fit items f, least_operand), tt),
-                          (λ at x _ xs _ _ _ ty fty _ _ _ _ t ft. (((fty.0, ft.0), least_operand), tt), (λ at b fb _ _ t ft. (((fb, ft.0), least_operand), tt), tt)),
+                          (
+                            λ at x _ xs _ _ _ ty fty _ _ _ _ t ft.
+                                (((fty.0, ft.0), least_operand), tt),
+                            (λ at b fb _ _ t ft. (((fb, ft.0), least_operand), tt), tt),
+                          ),
                         ),
                       ),
                     ),
@@ -260,7 +337,8 @@ operands_fit = (
 terms_fit : (least : ℕ) → RowsFit (Fits (symbol.term least)) (term_rows least)
 terms_fit least = (
   λ at t ft ops c. let n : not_level ≤ term_level t = ft.1 (omega arith) in chained least operand_level (not_term at t) ops (ft.0, n) least_operand c,
-  begins_fit SpineFits (Fits (symbol.term least)) operand_rows (symbol.operators least operand_level ∷ []) (λ s ops. chain (applied s.head s.arguments) ops) operands_fit
+  begins_fit SpineFits (Fits (symbol.term least)) operand_rows (symbol.operators least operand_level ∷ []) (λ s ops. chain (applied s.head s.arguments) ops)
+      operands_fit
       (λ s f ops c. let a : Operand (applied s.head s.arguments) = apply_fits s.head s.arguments f.0 f.1 in
       let r = chained least operand_level (applied s.head s.arguments) ops a.0 a.1 c in (r.0, λ e. r.1 (omega (arith, a.1, e)))),
 )
@@ -269,7 +347,11 @@ arguments_fit : RowsFit (All Operand) argument_rows
 arguments_fit = begins_fit SpineFits (All Operand) operand_rows [] (λ s. s.head ∷ s.arguments) operands_fit (λ s f. f)
 
 operators_fit : (least left : ℕ) → RowsFit (Chained least left) (operator_rows least left)
-operators_fit least left = (λ o e t ft more c. let r : (least ≤ op_level o) × (left_of o ≤ left) = taken_level least left o e in (r.0, r.1, ft.0, ft.1 (right_at_most o), c), tt)
+operators_fit least left = (
+  λ o e t ft more c. let r : (least ≤ op_level o)
+      × (left_of o ≤ left) = taken_level least left o e in (r.0, r.1, ft.0, ft.1 (right_at_most o), c),
+  tt,
+)
 
 group_end_fits : RowsFit (Fits symbol.group_end) group_end_rows
 group_end_fits = (λ at ts g. (tt, g), (λ at ty fty _ _ ts g. (fty.0, g), tt))
@@ -306,11 +388,13 @@ module _ (at : ℕ) (before : List Ident) (x : Ident) where
   )
 
   argued_fit : RowsFit SpineFits argued
-  argued_fit = begins_fit (All Operand) SpineFits argument_rows (symbol.operators 0 operand_level ∷ symbol.group_end ∷ []) (λ ts ops e. group_of at (names_spine before x []) ts ops e)
+  argued_fit = begins_fit (All Operand) SpineFits argument_rows (symbol.operators 0 operand_level ∷ symbol.group_end ∷ [])
+      (λ ts ops e. group_of at (names_spine before x []) ts ops e)
       arguments_fit (λ ts g ops c e fe. group_fits at (names_spine before x []) ts ops e (names_fit before x []) g c fe)
 
   operated_fit : RowsFit SpineFits operated
-  operated_fit = begins_fit (Chained 0 operand_level) SpineFits (operator_rows 0 operand_level) (symbol.group_end ∷ []) (λ ops e. group_of at (names_spine before x []) [] ops e)
+  operated_fit = begins_fit (Chained 0 operand_level) SpineFits (operator_rows 0 operand_level) (symbol.group_end ∷ [])
+      (λ ops e. group_of at (names_spine before x []) [] ops e)
       (operators_fit 0 operand_level) (λ ops c e fe. group_fits at (names_spine before x []) [] ops e (names_fit before x []) tt c fe)
 
   closed_fit : RowsFit SpineFits closed
@@ -344,7 +428,8 @@ module _ (at : ℕ) (x : Ident) where
       (λ ls ts ops _. unnamed at (chain (applied (name_term x ls) ts) ops))
 
   abbrev argued_bracket : List (Row Binders)
-  argued_bracket = begins_as argument_rows (symbol.operators 0 operand_level ∷ symbol.token words.RightBracket ∷ []) (λ ts ops _. unnamed at (chain (applied (name_term x []) ts) ops))
+  argued_bracket = begins_as argument_rows (symbol.operators 0 operand_level ∷ symbol.token words.RightBracket ∷ [])
+      (λ ts ops _. unnamed at (chain (applied (name_term x []) ts) ops))
 
   abbrev operated_bracket : List (Row Binders)
   operated_bracket = begins_as (operator_rows 0 operand_level) (symbol.token words.RightBracket ∷ []) (λ ops _. unnamed at (chain (name_term x []) ops))
@@ -356,19 +441,66 @@ module _ (at : ℕ) (x : Ident) where
   )
 
   argued_bracket_fit : RowsFit GroupLeveled argued_bracket
-  argued_bracket_fit = begins_fit (All Operand) GroupLeveled argument_rows (symbol.operators 0 operand_level ∷ symbol.token words.RightBracket ∷ []) (λ ts ops _. unnamed at (chain (applied (name_term x []) ts) ops))
+  argued_bracket_fit = begins_fit (All Operand) GroupLeveled argument_rows (symbol.operators 0 operand_level ∷ symbol.token words.RightBracket ∷ [])
+      (λ ts ops _. unnamed at (chain (applied (name_term x []) ts) ops))
       arguments_fit (λ ts g ops c _ _. unnamed_fits at (name_term x []) ts ops (name_fits x []) g c)
 
   operated_bracket_fit : RowsFit GroupLeveled operated_bracket
-  operated_bracket_fit = begins_fit (Chained 0 operand_level) GroupLeveled (operator_rows 0 operand_level) (symbol.token words.RightBracket ∷ []) (λ ops _. unnamed at (chain (name_term x []) ops))
+  operated_bracket_fit = begins_fit (Chained 0 operand_level) GroupLeveled (operator_rows 0 operand_level) (symbol.token words.RightBracket ∷ [])
+      (λ ops _. unnamed at (chain (name_term x []) ops))
       (operators_fit 0 operand_level) (λ ops c _ _. unnamed_fits at (name_term x []) [] ops (name_fits x []) tt c)
 
   bracket_name_fit : RowsFit GroupLeveled (bracket_name_rows at x)
   bracket_name_fit =
-      append_fit GroupLeveled (first ++ argued_bracket) operated_bracket (append_fit GroupLeveled first argued_bracket first_fit argued_bracket_fit) operated_bracket_fit
+      append_fit GroupLeveled (first ++ argued_bracket) operated_bracket (append_fit GroupLeveled first argued_bracket first_fit argued_bracket_fit)
+      operated_bracket_fit
 
 all_fit : (x : Symbol) → RowsFit (Fits x) (rows x)
-all_fit symbol.command = (λ at x _ ls _ bs fbs _ _ ty fty. (fbs, fty.0), (λ at x _ ls _ bs fbs d fd. defined_fits (decl_of at x ls bs d.ty) d.body (fbs, fd.0) fd.1, (λ at x _ ls _ bs fbs _ _ ty fty _ _ v fv hs fhs. ((fbs, fty.0), fv.0, fhs), (λ at x _ ls _ bs fbs ty fty _ _ cs fcs. ((fbs, fty), fcs), (λ at x _ ls _ bs fbs ty fty fs ffs. ((fbs, fty), ffs), (λ at x _ ls _ bs fbs ty fty fs ffs. ((fbs, fty), ffs), (λ at x _ ls _ bs fbs _ _ ty fty _ _ v fv. ((fbs, fty.0), fv.0), (λ at x _. tt, (λ at x _. tt, (λ at x _. tt, (λ at x _ xs _. tt, (λ at x _ xs _. tt, (λ at b fb bs fbs. (fb, fbs), (λ at t ft. ft.0, (λ at t ft. ft.0, (λ at _ _ x _. tt, tt))))))))))))))))
+all_fit symbol.command = (
+  λ at x _ ls _ bs fbs _ _ ty fty.
+      (fbs, fty.0),
+  (
+    λ at x _ ls _ bs fbs d fd. defined_fits (decl_of at x ls bs d.ty) d.body (fbs, fd.0) fd.1,
+    (
+      λ at x _ ls _ bs fbs _ _ ty fty _ _ v fv hs fhs.
+          ((fbs, fty.0), fv.0, fhs),
+      (
+        λ at x _ ls _ bs fbs ty fty _ _ cs fcs.
+            ((fbs, fty), fcs),
+        (
+          λ at x _ ls _ bs fbs ty fty fs ffs.
+              ((fbs, fty), ffs),
+          (
+            λ at x _ ls _ bs fbs ty fty fs ffs.
+                ((fbs, fty), ffs),
+            (
+              λ at x _ ls _ bs fbs _ _ ty fty _ _ v fv.
+                  ((fbs, fty.0), fv.0),
+              (
+                λ at x _. tt,
+                (
+                  λ at x _.
+                      tt,
+                  (
+                    λ at x _. tt,
+                    (
+                      λ at x _ xs _. tt,
+                      (
+                        λ at x _ xs _.
+                            tt,
+                        (λ at b fb bs fbs. (fb, fbs), (λ at t ft. ft.0, (λ at t ft. ft.0, (λ at _ _ x _. tt, tt)))),
+                      ),
+                    ),
+                  ),
+                ),
+              ),
+            ),
+          ),
+        ),
+      ),
+    ),
+  ),
+)
 all_fit (symbol.token w) = (λ at. tt, tt)
 all_fit symbol.arrow_token = (λ o e. tt, tt)
 all_fit symbol.number_token = (λ n. tt, tt)
@@ -382,8 +514,16 @@ all_fit symbol.binder_names = (λ x xs _. tt, (λ at xs _. tt, tt))
 all_fit symbol.level_names = (λ at x _ xs _. tt, tt)
 all_fit symbol.more_level_names = (λ at x _ xs _. tt, (λ at. tt, tt))
 all_fit symbol.binder = (λ at x _ xs _ _ _ ty fty _ _. fty.0, (λ at x _ xs _ _ _ ty fty _ _. fty.0, (λ at b fb. fb, tt)))
-all_fit symbol.parameters = (λ at x _ xs _ _ _ ty fty _ _ bs fbs. (fty.0, fbs), (λ at x _ xs _ _ _ ty fty _ _ bs fbs. (fty.0, fbs), (λ at b fb bs fbs. (fb, fbs), tt)))
-all_fit symbol.lambda_binder = (λ at x _ xs _ _ _ ty fty _ _. fty.0, (λ at x _ xs _ ty fty. implicit_fits at (x ∷ xs) ty fty, (λ at b fb. fb, (λ x. tt, (λ at. tt, tt)))))
+all_fit symbol.parameters = (
+  λ at x _ xs _ _ _ ty fty _ _ bs fbs.
+      (fty.0, fbs),
+  (λ at x _ xs _ _ _ ty fty _ _ bs fbs. (fty.0, fbs), (λ at b fb bs fbs. (fb, fbs), tt)),
+)
+all_fit symbol.lambda_binder = (
+  λ at x _ xs _ _ _ ty fty _ _.
+      fty.0,
+  (λ at x _ xs _ ty fty. implicit_fits at (x ∷ xs) ty fty, (λ at b fb. fb, (λ x. tt, (λ at. tt, tt)))),
+)
 all_fit symbol.lambda_binders = (
   λ at x _ xs _ _ _ ty fty _ _ bs fbs. (fty.0, fbs),
   (
@@ -394,7 +534,8 @@ all_fit symbol.lambda_binders = (
 all_fit symbol.implicit_end = (λ at ty fty _ _. fty.0, (λ at. tt, tt))
 all_fit (symbol.bracket at) = (
   λ x b fb. fb,
-  begins_fit (Fits (symbol.term 0)) GroupLeveled (term_rows 0) (symbol.token words.RightBracket ∷ []) (λ ty _. unnamed at ty) (terms_fit 0) (λ ty fty _ _. fty.0),
+  begins_fit (Fits (symbol.term 0)) GroupLeveled (term_rows 0) (symbol.token words.RightBracket ∷ []) (λ ty _. unnamed at ty) (terms_fit 0)
+      (λ ty fty _ _. fty.0),
 )
 all_fit (symbol.bracket_name at x) = bracket_name_fit at x
 all_fit symbol.def_rest = (λ at ty fty d fd. (fty.0, fd), (λ at v fv. (tt, (fv.0, tt)), tt))
@@ -420,7 +561,8 @@ all_fit (symbol.group at) = (
   λ x s f. f,
   (
     λ p s f. f,
-    begins_fit (Fits (symbol.term 0)) SpineFits (term_rows 0) (symbol.group_end ∷ []) (λ t e. with_arguments (paren at t (option_of e.ty)) e.arguments) (terms_fit 0)
+    begins_fit (Fits (symbol.term 0)) SpineFits (term_rows 0) (symbol.group_end ∷ []) (λ t e. with_arguments (paren at t (option_of e.ty)) e.arguments)
+        (terms_fit 0)
         (λ t ft e fe. (((ft.0, option_fits e.ty fe.0), least_operand), fe.1)),
   ),
 )
@@ -450,14 +592,21 @@ all_fit symbol.item = (
           λ x. tt,
           (
             λ x. tt,
-            (λ x _ _ r fr rs frs. (fr, rules_fit rs frs), (λ x y _. tt, (λ x y _ _ _ ty fty _ _ t ft. (fty.0, ft.0), (λ x y _. tt, (λ x y _. tt, (λ x y _. tt, (λ at. tt, tt))))))),
+            (
+              λ x _ _ r fr rs frs. (fr, rules_fit rs frs),
+              (λ x y _. tt, (λ x y _ _ _ ty fty _ _ t ft. (fty.0, ft.0), (λ x y _. tt, (λ x y _. tt, (λ x y _. tt, (λ at. tt, tt)))))),
+            ),
           ),
         ),
       ),
     ),
   ),
 )
-all_fit symbol.rw_rule = (λ at t ft. ft.0, begins_fit (Fits (symbol.term 0)) RuleLeveled (term_rows 0) [] (λ t. rule (place t) false t) (terms_fit 0) (λ t ft. ft.0))
+all_fit symbol.rw_rule = (
+  λ at t ft. ft.0,
+  begins_fit (Fits (symbol.term 0)) RuleLeveled (term_rows 0) [] (λ t. rule (place t) false t) (terms_fit 0)
+      (λ t ft. ft.0),
+)
 all_fit symbol.more_rules = (λ at r fr rs frs. (fr, frs), (λ at. tt, tt))
 
 some_is : {A : Type 0} (P : A → Type 0) (a b : A) → ◌≡◌ {A = Option A} (Some a) (Some b) → P a → P b
@@ -498,12 +647,14 @@ left_out_fits symbol.rw_rule v e = cc
 left_out_fits symbol.more_rules v e = cc
 left_out_fits _ v e = tt
 
-reads_fit : {A : Type 0} (P : A → Type 0) {xs : List Symbol} {ts rest : List Piece} (d : Reads grammar xs ts rest) (f : Takes Tree xs A) → Given P xs f → P (tree d f)
+reads_fit : {A : Type 0} (P : A → Type 0) {xs : List Symbol} {ts rest : List Piece} (d : Reads grammar xs ts rest) (f : Takes Tree xs A) → Given P xs f
+    → P (tree d f)
 reads_fit P nothing f h = h
 reads_fit P (left_out {x} v e q d) f h = reads_fit P d (f v) (h v (left_out_fits x v e))
 reads_fit P (taken {x} t p e b d) f h =
     let v : Tree x = tree b p.build in
-    reads_fit P d (f v) (h v (reads_fit (Fits x) b p.build (found (λ (q : Prod (Tree x)). Given (Fits x) q.body q.build) (rows x) t.class t.at p (all_fit x) e)))
+    reads_fit P d (f v) (h v (reads_fit (Fits x) b p.build
+    (found (λ (q : Prod (Tree x)). Given (Fits x) q.body q.build) (rows x) t.class t.at p (all_fit x) e)))
 
 pub levels_kept : LevelsKept
 levels_kept ts c d = subst CommandLeveled d.same (reads_fit CommandLeveled d.reads (λ v. v) (λ v h. h))

@@ -7,7 +7,8 @@ abbrev then : {R : Type 0} (g : Grammar) (t : g.T) (ts : List g.T) → Option (S
 then g t ts o = elim o [ None ↦ Stuck (t ∷ ts) | Some s ↦ run g ts s.symbols s.gives ]
 
 -- A symbol that is left out makes no difference.
-skip_end : {R : Type 0} (g : Grammar) (x : g.S) (xs : List g.S) (k : Takes g.Tree (x ∷ xs) R) (v : g.Tree x) → g.without x ≡ Some v → end g (x ∷ xs) k ≡ end g xs (k v)
+skip_end : {R : Type 0} (g : Grammar) (x : g.S) (xs : List g.S) (k : Takes g.Tree (x ∷ xs) R) (v : g.Tree x) → g.without x ≡ Some v
+    → end g (x ∷ xs) k ≡ end g xs (k v)
 skip_end {R} g x xs k v e = ap (λ (o : Option (g.Tree x)). elim o as (λ _. Option R) [ None ↦ None | Some w ↦ end g xs (k w) ]) e
 
 skip_step : {R : Type 0} (g : Grammar) (x : g.S) (xs : List g.S) (k : Takes g.Tree (x ∷ xs) R) (v : g.Tree x) (t : g.T) →
@@ -33,7 +34,8 @@ take_step {R} g x xs k t p e =
     ]) e
 
 -- What a derivation reads, the machine reads, whatever is below on the stack.
-pub complete : (g : Grammar) {A R : Type 0} {xs : List g.S} {ts rest : List g.T} (d : Reads g xs ts rest) (f : Takes g.Tree xs A) (ys : List g.S) (k : A → Takes g.Tree ys R) →
+pub complete : (g : Grammar) {A R : Type 0} {xs : List g.S} {ts rest : List g.T} (d : Reads g xs ts rest) (f : Takes g.Tree xs A) (ys : List g.S)
+    (k : A → Takes g.Tree ys R) →
     run g ts (xs ++ ys) (join g.Tree R xs ys f k) ≡ run g rest ys (k (tree d f))
 complete g nothing f ys k = refl
 complete g {R} (left_out {x} {xs} {ts} v e q d) f ys k =
@@ -50,7 +52,8 @@ pub record Split (g : Grammar) {A R : Type 0} (xs ys : List g.S) (ts rest : List
   pub second : Reads g ys mid rest
   pub same : tree second (k (tree first f)) ≡ r
 
-pub split : {A R : Type 0} (g : Grammar) (xs : List g.S) {ys : List g.S} {ts rest : List g.T} (d : Reads g (xs ++ ys) ts rest) (f : Takes g.Tree xs A) (k : A → Takes g.Tree ys R) →
+pub split : {A R : Type 0} (g : Grammar) (xs : List g.S) {ys : List g.S} {ts rest : List g.T} (d : Reads g (xs ++ ys) ts rest) (f : Takes g.Tree xs A)
+    (k : A → Takes g.Tree ys R) →
     Split g xs ys ts rest f k (tree d (join g.Tree R xs ys f k))
 split g [] {ts} d f k = record { mid = ts; first = nothing; second = d; same = refl }
 split g (x ∷ xs) (left_out v e q d) f k =

@@ -22,7 +22,8 @@ step_fine : (R : Type 0) (g : Grammar) (v : Viable g) (xs : List g.S) (k : Takes
 step_fine R g v [] k t h = tt
 step_fine R g v (x ∷ xs) k t h = go (g.begin x t) refl (λ w. step_fine R g v xs (k w) t (v.below x xs h))
   where
-    skips : (o : Option (g.Tree x)) → ((w : g.Tree x) → Fine g v R (step g xs (k w) t)) → Fine g v R (elim o as (λ _. Option (Stack g R)) [ None ↦ None | Some w ↦ step g xs (k w) t ])
+    skips : (o : Option (g.Tree x)) → ((w : g.Tree x) → Fine g v R (step g xs (k w) t))
+        → Fine g v R (elim o as (λ _. Option (Stack g R)) [ None ↦ None | Some w ↦ step g xs (k w) t ])
     skips None ih = tt
     skips (Some w) ih = ih w
 
@@ -40,7 +41,8 @@ pub record Reaches (R : Type 0) (g : Grammar) (v : Viable g) (xs : List g.S) (k 
   pub good : v.Good stack.symbols
   pub reach : (us : List g.T) → run g (ts ++ us) xs k ≡ run g us stack.symbols stack.gives
 
-abbrev more_reached : (R : Type 0) (g : Grammar) (v : Viable g) (xs : List g.S) (k : Takes g.Tree xs R) (t : g.T) (ts : List g.T) (s : Stack g R) → step g xs k t ≡ Some s →
+abbrev more_reached : (R : Type 0) (g : Grammar) (v : Viable g) (xs : List g.S) (k : Takes g.Tree xs R) (t : g.T) (ts : List g.T) (s : Stack g R)
+    → step g xs k t ≡ Some s →
     Reaches R g v s.symbols s.gives ts → Reaches R g v xs k (t ∷ ts)
 more_reached R g v xs k t ts s e r = record {
   stack = r.stack;
@@ -85,7 +87,8 @@ not_stuck : {T R : Type 0} (o : Option R) (last : List T) → ended o ≡ Stuck 
 not_stuck None last e = cc
 not_stuck (Some r) last e = cc
 
-stuck_at : (R : Type 0) (g : Grammar) (v : Viable g) (ts : List g.T) (xs : List g.S) (k : Takes g.Tree xs R) (last : List g.T) → v.Good xs → run g ts xs k ≡ Stuck last → StuckAt R g v xs k ts last
+stuck_at : (R : Type 0) (g : Grammar) (v : Viable g) (ts : List g.T) (xs : List g.S) (k : Takes g.Tree xs R) (last : List g.T) → v.Good xs
+    → run g ts xs k ≡ Stuck last → StuckAt R g v xs k ts last
 stuck_at R g v [] xs k last h e = absurd (not_stuck (end g xs k) last e)
 stuck_at R g v (t ∷ ts) xs k last h e =
     stuck_step R g v xs k t ts last (step g xs k t) h (step_fine R g v xs k t h) refl e (λ ys j. stuck_at R g v ts ys j last)
@@ -96,7 +99,8 @@ short_step : (R : Type 0) (g : Grammar) (v : Viable g) (xs : List g.S) (k : Take
 short_step R g v xs k t ts None f e q ih = cc
 short_step R g v xs k t ts (Some s) f e q ih = more_reached R g v xs k t ts s e (ih s.symbols s.gives f q)
 
-short_reaches : (R : Type 0) (g : Grammar) (v : Viable g) (ts : List g.T) (xs : List g.S) (k : Takes g.Tree xs R) → v.Good xs → run g ts xs k ≡ Short → Reaches R g v xs k ts
+short_reaches : (R : Type 0) (g : Grammar) (v : Viable g) (ts : List g.T) (xs : List g.S) (k : Takes g.Tree xs R) → v.Good xs → run g ts xs k ≡ Short
+    → Reaches R g v xs k ts
 short_reaches R g v [] xs k h e = record { stack = record { symbols = xs; gives = k }; good = h; reach = λ us. refl }
 short_reaches R g v (t ∷ ts) xs k h e =
     short_step R g v xs k t ts (step g xs k t) (step_fine R g v xs k t h) refl e (λ ys j. short_reaches R g v ts ys j)

@@ -111,5 +111,6 @@ operator_table =
 -- The operators are those of this table; `¬` has an operand of level 40.
 abbrev pub OperatorsBind : Type 0
 OperatorsBind =
-    All (λ w. (value_of w.text symbols ≡ Some (Operator w.op)) × (op_level w.op ≡ w.level) × (left_of w.op ≡ w.left) × (right_of w.op ≡ w.right)) operator_table ×
+    All (λ w. (value_of w.text symbols ≡ Some (Operator w.op)) × (op_level w.op ≡ w.level) × (left_of w.op ≡ w.left) × (right_of w.op ≡ w.right))
+    operator_table ×
     (not_level ≡ 40)

@@ -1,6 +1,61 @@
 -- Terms whose operators keep their levels.
 use Rattle.std.specs.Prelude.{ℕ, ◌≤◌, List, [], ◌∷◌, Option, None, Some}
-use Rattle.lf_syntax.specs.Tree.{TermTree, ident, numeral, hole, sorry_term, prop, type_u, sort_u, paren, app, oper, not_term, fun_term, forall_term, let_term, by_term, arrow, TermOption, no_term, some_term, TermTrees, end_terms, term_and, BindersTree, binders, LBinderTree, typed, plain, implicit, LBinderTrees, end_binders, binder_and, ItemTree, block, exact, intro, apply, rfl, assumption_item, rw_item, unfold_item, have_item, induction, cases, injection, sorry_item, ItemTrees, end_items, item_and, RuleTree, rule, RuleTrees, end_rules, rule_and}
+use Rattle.lf_syntax.specs.Tree.{
+  TermTree,
+  ident,
+  numeral,
+  hole,
+  sorry_term,
+  prop,
+  type_u,
+  sort_u,
+  paren,
+  app,
+  oper,
+  not_term,
+  fun_term,
+  forall_term,
+  let_term,
+  by_term,
+  arrow,
+  TermOption,
+  no_term,
+  some_term,
+  TermTrees,
+  end_terms,
+  term_and,
+  BindersTree,
+  binders,
+  LBinderTree,
+  typed,
+  plain,
+  implicit,
+  LBinderTrees,
+  end_binders,
+  binder_and,
+  ItemTree,
+  block,
+  exact,
+  intro,
+  apply,
+  rfl,
+  assumption_item,
+  rw_item,
+  unfold_item,
+  have_item,
+  induction,
+  cases,
+  injection,
+  sorry_item,
+  ItemTrees,
+  end_items,
+  item_and,
+  RuleTree,
+  rule,
+  RuleTrees,
+  end_rules,
+  rule_and,
+}
 use Rattle.lf_text.specs.Operators.{op_level, left_of, right_of}
 use Rattle.lf_syntax.specs.Levels.{operand_level, not_level}
 use Rattle.lf_syntax.specs.declared.term.Binders.{Binders}
@@ -10,7 +65,26 @@ use Rattle.lf_syntax.specs.declared.command.CtorDecl.{CtorDecl}
 use Rattle.lf_syntax.specs.declared.command.FieldDecl.{FieldDecl}
 use Rattle.lf_syntax.specs.declared.pattern.Alternative.{Alternative}
 use Rattle.lf_syntax.specs.declared.command.Command.{Command}
-use Rattle.lf_syntax.specs.declared.command.Command.TheVariants.{Axiom, Def, Equations, Theorem, Inductive, Structure, Class, Instance, Namespace, Section, End, OpenNames, Universe, Variable, Check, Reduce, PrintAxioms, Bad}
+use Rattle.lf_syntax.specs.declared.command.Command.TheVariants.{
+  Axiom,
+  Def,
+  Equations,
+  Theorem,
+  Inductive,
+  Structure,
+  Class,
+  Instance,
+  Namespace,
+  Section,
+  End,
+  OpenNames,
+  Universe,
+  Variable,
+  Check,
+  Reduce,
+  PrintAxioms,
+  Bad,
+}
 
 abbrev pub term_level : TermTree → ℕ
 term_level (oper at o l r) = op_level o

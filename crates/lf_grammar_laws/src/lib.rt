@@ -1,7 +1,20 @@
 //! Laws of the grammar of commands: each public function's contract is one of them, and it does nothing.
 #![tactic(auto)]
 
-ghost use Rattle.lf_grammar_laws.specs.Laws.{OneAnswer, MachineAnswers, Complete, Sound, Completable, StuckIsLocal, OneCommand, OneDocument, MachineDocument, NeverBad, LevelsKept, OperatorsBind};
+ghost use Rattle.lf_grammar_laws.specs.Laws.{
+  OneAnswer,
+  MachineAnswers,
+  Complete,
+  Sound,
+  Completable,
+  StuckIsLocal,
+  OneCommand,
+  OneDocument,
+  MachineDocument,
+  NeverBad,
+  LevelsKept,
+  OperatorsBind,
+};
 ghost use Rattle.lf_grammar_laws.specs.Worked.{Worked};
 
 /// A list of tokens is a command with one tree, or bad at one place, or a beginning that ends early: exactly one of these.

@@ -69,7 +69,8 @@ V = base_view (declared_constants nat_declaration true ++
     (declared_constants one_declaration true ++
     (declared_constants point_declaration true ++
     (declared_constants box_declaration true ++
-    (declared_constants fixed_declaration true ++ (declared_constants again_declaration true ++ (declared_constants and_declaration true ++ origin ∷ pair ∷ []))))))))
+    (declared_constants fixed_declaration true ++ (declared_constants again_declaration true
+    ++ (declared_constants and_declaration true ++ origin ∷ pair ∷ []))))))))
 
 -- inductive Code : Type 1 where | mk (A : Type)
 abbrev pub code_declaration : IndDecl

@@ -1,4 +1,5 @@
--- How the order of levels is decided: by finitely many assignments. The checker asks by it; that its answers are those of all assignments is a law of lf_checker_laws.
+-- How the order of levels is decided: by finitely many assignments. The checker asks by it; that its answers are those of all assignments is a law of
+-- lf_checker_laws.
 use Rattle.std.specs.Prelude.{◌≡◌, ℕ, Bool, true, false, ◌&&◌, nat_eq, nat_le, ◌<◌, ◌≤◌, length, if◌then◌else◌, List, [], ◌∷◌, ◌++◌, Result, Ok, Err}
 use Rattle.lf_core.specs.Term.{Universe}
 use Rattle.lf_core.specs.Level.{Assignment, value_of}

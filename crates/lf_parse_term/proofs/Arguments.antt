@@ -3,7 +3,26 @@ use Rattle.std.proofs.Common.{◌≡◌, ◌<◌, ◌≤◌, ◌+◌, ℕ, true,
 use Rattle.lf_syntax.specs.Piece.{Piece}
 use Rattle.lf_syntax.specs.Symbol.{Spine}
 use Rattle.lf_syntax.specs.Symbol as symbol
-use Rattle.lf_syntax.specs.Tree.{LevelTree, TermTree, ident, numeral, hole, sorry_term, prop, type_u, sort_u, paren, app, oper, not_term, fun_term, forall_term, let_term, by_term, arrow}
+use Rattle.lf_syntax.specs.Tree.{
+  LevelTree,
+  TermTree,
+  ident,
+  numeral,
+  hole,
+  sorry_term,
+  prop,
+  type_u,
+  sort_u,
+  paren,
+  app,
+  oper,
+  not_term,
+  fun_term,
+  forall_term,
+  let_term,
+  by_term,
+  arrow,
+}
 use Rattle.lf_syntax.specs.Levels.{operand_level}
 use Rattle.lf_syntax.specs.Build.{with_arguments, sort_spine, sort_or_none, level_of}
 use Rattle.lf_syntax.specs.Rows.{operand_rows}
@@ -76,7 +95,8 @@ sort_sort make other s q (t ∷ ts) = go (level_of t true)
     go (Some l) = ap (λ o. list_of (sort_or_none make (other (Some l)) ts o)) (q.no_level (Some l))
 
 -- Behind a sort with a term behind it that is none.
-sort_plain : (make : Option LevelTree → TermTree) → Sorts make → (t : TermTree) → ((ts : List TermTree) → settled t ts ≡ with_arguments t ts) → (ts : List TermTree) (o : Option LevelTree) →
+sort_plain : (make : Option LevelTree → TermTree) → Sorts make → (t : TermTree) → ((ts : List TermTree) → settled t ts ≡ with_arguments t ts)
+    → (ts : List TermTree) (o : Option LevelTree) →
     list_of (sort_or_none make t ts o) ≡ extend (list_of (sort_or_none make t [] o)) ts
 sort_plain make s t keeps ts None = ap (λ (x : Spine). make None ∷ list_of x) (sym (keeps ts))
 sort_plain make s t keeps ts (Some l) = ap list_of (sym (s.with_level l ts))
@@ -111,7 +131,8 @@ behind_element : (terms : List TermTree) (ts : List Piece) (m : Reading (Option 
     extended terms (read symbol.arguments ts) ≡ extended terms (m >>= going [] list_of (Some []))
 behind_element terms ts m h = ap (extended terms) (read_arguments ts ∙ ap (λ (o : Reading (Option Spine)). o >>= going [] list_of (Some [])) h)
 
-pub argument_none : (terms : List TermTree) (ts rest : List Piece) → maybe operand_rows ts ≡ after_maybe None rest → extended terms (read symbol.arguments ts) ≡ Ok (terms, rest)
+pub argument_none : (terms : List TermTree) (ts rest : List Piece) → maybe operand_rows ts ≡ after_maybe None rest
+    → extended terms (read symbol.arguments ts) ≡ Ok (terms, rest)
 unfolding extended after_maybe
 argument_none terms ts rest h = behind_element terms ts (Ok (None, rest)) h ∙ ap (λ (us : List TermTree). Ok (us, rest)) (extend_nil terms)
 
@@ -125,7 +146,8 @@ pub argument_atom : (terms : List TermTree) (t : TermTree) (ts rest : List Piece
     extended terms (read symbol.arguments ts) ≡ extended (extend terms (t ∷ [])) (read symbol.arguments rest)
 unfolding after_maybe
 argument_atom terms t ts rest h =
-    behind_element terms ts (read symbol.arguments rest >>= (λ more behind. Ok (Some (settled t more), behind))) h ∙ atom_more terms t (read symbol.arguments rest)
+    behind_element terms ts (read symbol.arguments rest >>= (λ more behind. Ok (Some (settled t more), behind))) h
+    ∙ atom_more terms t (read symbol.arguments rest)
 
 pub argument_lead : (terms : List TermTree) (t : TermTree) (ts rest : List Piece) → maybe operand_rows ts ≡ after_maybe (Some (Lead t)) rest →
     extended terms (read symbol.arguments ts) ≡ Ok (extend terms (t ∷ []), rest)

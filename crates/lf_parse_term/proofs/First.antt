@@ -63,7 +63,8 @@ tested false a F qs o more t ts h = sym h
 
 word_class : {V : Type 0} (w : Word) (F : ℕ → Prod V) (qs : List (Row V)) (o : Option V) (t : Piece) (ts : List Piece) (c : Class) (at : ℕ) →
     reading qs o (t ∷ ts) ≡ by_row (first_row qs c at) o t ts →
-    by_row (first_row (on_word w F ∷ qs) c at) o t ts ≡ (by_row (first_row (begins_as (word_rows w) [] (λ a. Some a)) c at) (Some None) t ts >>= first_by F qs o)
+    by_row (first_row (on_word w F ∷ qs) c at) o t ts
+    ≡ (by_row (first_row (begins_as (word_rows w) [] (λ a. Some a)) c at) (Some None) t ts >>= first_by F qs o)
 word_class w F qs o t ts (word v) at h = tested (nat_eq (word_code w) (word_code v)) at F qs o (first_row qs (word v) at) t ts h
 word_class w F qs o t ts (name s x) at h = sym h
 word_class w F qs o t ts (number n digits) at h = sym h
@@ -77,7 +78,8 @@ word_first w F qs o (t ∷ ts) = word_class w F qs o t ts t.class t.at refl
 
 part_class : {V : Type 0} (F : Ident → Prod V) (qs : List (Row V)) (o : Option V) (t : Piece) (ts : List Piece) (c : Class) (at : ℕ) →
     reading qs o (t ∷ ts) ≡ by_row (first_row qs c at) o t ts →
-    by_row (first_row (on_one_part F ∷ qs) c at) o t ts ≡ (by_row (first_row (begins_as one_part_rows [] (λ a. Some a)) c at) (Some None) t ts >>= first_by F qs o)
+    by_row (first_row (on_one_part F ∷ qs) c at) o t ts
+    ≡ (by_row (first_row (begins_as one_part_rows [] (λ a. Some a)) c at) (Some None) t ts >>= first_by F qs o)
 part_class F qs o t ts (word v) at h = sym h
 part_class F qs o t ts (name s x) at h = tested (is_one_part s) (record { at = at; name = x }) F qs o (first_row qs (name s x) at) t ts h
 part_class F qs o t ts (number n digits) at h = sym h
@@ -94,7 +96,8 @@ named_rows F qs = on_one_part F ∷ on_word words.Underscore (λ p. F (underscor
 
 name_class : {V : Type 0} (F : Ident → Prod V) (qs : List (Row V)) (o : Option V) (t : Piece) (ts : List Piece) (c : Class) (at : ℕ) →
     reading qs o (t ∷ ts) ≡ by_row (first_row qs c at) o t ts →
-    by_row (first_row (named_rows F qs) c at) o t ts ≡ (by_row (first_row (begins_as binder_name_rows [] (λ a. Some a)) c at) (Some None) t ts >>= first_by F qs o)
+    by_row (first_row (named_rows F qs) c at) o t ts
+    ≡ (by_row (first_row (begins_as binder_name_rows [] (λ a. Some a)) c at) (Some None) t ts >>= first_by F qs o)
 name_class F qs o t ts (word v) at h = tested (nat_eq (word_code words.Underscore) (word_code v)) (underscore_at at) F qs o (first_row qs (word v) at) t ts h
 name_class F qs o t ts (name s x) at h = tested (is_one_part s) (record { at = at; name = x }) F qs o (first_row qs (name s x) at) t ts h
 name_class F qs o t ts (number n digits) at h = sym h
@@ -108,7 +111,8 @@ name_first F qs o (t ∷ ts) = name_class F qs o t ts t.class t.at refl
 
 arrow_class : {V : Type 0} (P : Prod V) (qs : List (Row V)) (o : Option V) (t : Piece) (ts : List Piece) (c : Class) (at : ℕ) →
     reading qs o (t ∷ ts) ≡ by_row (first_row qs c at) o t ts →
-    by_row (first_row (on_operator is_arrow (λ _. P) ∷ qs) c at) o t ts ≡ (by_row (first_row (begins_as arrow_rows [] (λ a. Some a)) c at) (Some None) t ts >>= first_by (λ _. P) qs o)
+    by_row (first_row (on_operator is_arrow (λ _. P) ∷ qs) c at) o t ts
+    ≡ (by_row (first_row (begins_as arrow_rows [] (λ a. Some a)) c at) (Some None) t ts >>= first_by (λ _. P) qs o)
 arrow_class P qs o t ts (word v) at h = sym h
 arrow_class P qs o t ts (name s x) at h = sym h
 arrow_class P qs o t ts (number n digits) at h = sym h
@@ -139,7 +143,8 @@ pub append_first : {A V : Type 0} (rs : List (Row A)) (ys : List Symbol) (k : A 
 append_first rs ys k qs o [] = refl
 append_first {A} {V} rs ys k qs o (t ∷ ts) =
     ap (λ (q : Option (Prod V)). by_row q o t ts)
-    (first_append (begins_as rs ys k) qs t.class t.at ∙ ap (λ (q : Option (Prod V)). first_or q (first_row qs t.class t.at)) (first_begun rs ys k t.class t.at)) ∙
+    (first_append (begins_as rs ys k) qs t.class t.at
+    ∙ ap (λ (q : Option (Prod V)). first_or q (first_row qs t.class t.at)) (first_begun rs ys k t.class t.at)) ∙
     go (first_row rs t.class t.at) ∙
     sym (ap (λ (q : Option (Prod (Option A))). by_row q (Some None) t ts >>= append_by ys k qs o) (first_begun rs [] (λ a. Some a) t.class t.at))
   where

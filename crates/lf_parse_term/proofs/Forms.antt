@@ -1,5 +1,32 @@
 -- Terms: heads with arguments, operators, groups.
-use Rattle.std.proofs.Common.{◌≡◌, ◌<◌, ◌≤◌, ◌+◌, ℕ, Bool, true, false, List, [], ◌∷◌, ◌++◌, map, length, Option, None, Some, Result, Ok, Err, refl, sym, ap, subst, ◌∙◌, arith}
+use Rattle.std.proofs.Common.{
+  ◌≡◌,
+  ◌<◌,
+  ◌≤◌,
+  ◌+◌,
+  ℕ,
+  Bool,
+  true,
+  false,
+  List,
+  [],
+  ◌∷◌,
+  ◌++◌,
+  map,
+  length,
+  Option,
+  None,
+  Some,
+  Result,
+  Ok,
+  Err,
+  refl,
+  sym,
+  ap,
+  subst,
+  ◌∙◌,
+  arith,
+}
 use Rattle.std.specs.Borrow.{Bor}
 use Rattle.lf_text.specs.declared.operator.Op.{Op}
 use Rattle.lf_text.specs.Operators.{op_level, right_of}
@@ -17,7 +44,18 @@ use Rattle.lf_syntax.specs.Tree.{TermTree, LBinderTree, not_term, oper, place, r
 use Rattle.lf_syntax.specs.TermNode.{lbinder_tree, lbinder_trees, rule_tree, rule_trees}
 use Rattle.lf_syntax.specs.Levels.{operand_level, not_level, takes}
 use Rattle.lf_syntax.specs.Build.{name_term, with_arguments, applied, chain}
-use Rattle.lf_syntax.specs.Rows.{rows, term_rows, group_end_rows, operand_rows, operator_rows, binder_name_rows, one_part_rows, lambda_binder_rows, binders_at, unnamed}
+use Rattle.lf_syntax.specs.Rows.{
+  rows,
+  term_rows,
+  group_end_rows,
+  operand_rows,
+  operator_rows,
+  binder_name_rows,
+  one_part_rows,
+  lambda_binder_rows,
+  binders_at,
+  unnamed,
+}
 use Rattle.lf_parse_term.specs.Descent.{stuck, Reading, read, reading, seq, maybe, Shorter, ◌>>=◌}
 use Rattle.lf_parse_term.specs.Front.{word_rows}
 use Rattle.lf_parse_term.specs.Spine.{list_of, extended, chained, chain_of, applied_all, operation, closed_rows, names_end, bracket_name_by, Within, weight}
@@ -68,12 +106,15 @@ pub read_term : (least : ℕ) (ts : List Piece) → read (symbol.term least) ts 
 unfolding chained operation extended
 read_term least ts =
     read_is (symbol.term least) ts ∙
-    word_first words.NotSign (λ at. then (symbol.term not_level ∷ symbol.operators least operand_level ∷ []) (λ t ops. chain (not_term at t) ops)) (plain_rows least) None ts ∙
+    word_first words.NotSign (λ at. then (symbol.term not_level ∷ symbol.operators least operand_level ∷ []) (λ t ops. chain (not_term at t) ops))
+    (plain_rows least) None ts ∙
     then_same (maybe (word_rows words.NotSign) ts)
-    (first_by (λ at. then (symbol.term not_level ∷ symbol.operators least operand_level ∷ []) (λ t ops. chain (not_term at t) ops)) (plain_rows least) None) (term_by least) go
+    (first_by (λ at. then (symbol.term not_level ∷ symbol.operators least operand_level ∷ []) (λ t ops. chain (not_term at t) ops)) (plain_rows least) None)
+    (term_by least) go
   where
     go : (m : Option ℕ) (rest : List Piece) →
-        first_by (λ at. then (symbol.term not_level ∷ symbol.operators least operand_level ∷ []) (λ t ops. chain (not_term at t) ops)) (plain_rows least) None m rest ≡ term_by least m rest
+        first_by (λ at. then (symbol.term not_level ∷ symbol.operators least operand_level ∷ []) (λ t ops. chain (not_term at t) ops)) (plain_rows least) None
+        m rest ≡ term_by least m rest
     go (Some at) rest = refl
     go None rest = plain_term least rest
 
@@ -112,7 +153,8 @@ read_group at ts =
     name_first (λ x. then (symbol.group_names at [] x ∷ []) (λ s. s)) (inside_rows at) None ts ∙
     then_same (maybe binder_name_rows ts) (first_by (λ x. then (symbol.group_names at [] x ∷ []) (λ s. s)) (inside_rows at) None) (group_by at) go
   where
-    go : (m : Option Ident) (rest : List Piece) → first_by (λ x. then (symbol.group_names at [] x ∷ []) (λ s. s)) (inside_rows at) None m rest ≡ group_by at m rest
+    go : (m : Option Ident) (rest : List Piece) → first_by (λ x. then (symbol.group_names at [] x ∷ []) (λ s. s)) (inside_rows at) None m rest
+        ≡ group_by at m rest
     go (Some x) rest = then_ok (read (symbol.group_names at [] x) rest)
     go None rest =
         gone_term (symbol.group_end ∷ []) (λ t e. with_arguments (paren at t (option_of e.ty)) e.arguments) rest ∙
@@ -133,7 +175,8 @@ read_bracket at ts =
     part_first (λ x. then (symbol.bracket_name at x ∷ []) (λ b. b)) (type_rows at) None ts ∙
     then_same (maybe one_part_rows ts) (first_by (λ x. then (symbol.bracket_name at x ∷ []) (λ b. b)) (type_rows at) None) (bracket_by at) go
   where
-    go : (m : Option Ident) (rest : List Piece) → first_by (λ x. then (symbol.bracket_name at x ∷ []) (λ b. b)) (type_rows at) None m rest ≡ bracket_by at m rest
+    go : (m : Option Ident) (rest : List Piece) → first_by (λ x. then (symbol.bracket_name at x ∷ []) (λ b. b)) (type_rows at) None m rest
+        ≡ bracket_by at m rest
     go (Some x) rest = then_ok (read (symbol.bracket_name at x) rest)
     go None rest = gone_term (symbol.token words.RightBracket ∷ []) (λ ty _. unnamed at ty) rest
 
@@ -172,7 +215,8 @@ read_rule ts =
     go (Some at) rest = refl
     go None rest = gone_term [] (λ t. rule (place t) false t) rest
 
-pub within_shorter : (r : Result (Option Element × Bor (List code.Piece)) Halt) (ts : List code.Piece) (n : ℕ) → Shorter r ts → length ts < n → Within r weight n
+pub within_shorter : (r : Result (Option Element × Bor (List code.Piece)) Halt) (ts : List code.Piece) (n : ℕ) → Shorter r ts → length ts < n
+    → Within r weight n
 within_shorter (Ok x) ts n h k = go x.0
   where
     go : (e : Option Element) → length x.1.now + weight e ≤ n

@@ -14,13 +14,58 @@ use Rattle.lf_syntax.specs.Tree.{LevelTree, TermTree, paren, option_of, hole, id
 use Rattle.lf_syntax.specs.Levels.{operand_level, is_arrow}
 use Rattle.lf_syntax.specs.Build.{underscore_at, is_underscore, with_arguments, applied, chain, name_term, names_spine, group_of, close_of}
 use Rattle.lf_syntax.specs.Row.{Row, Prod, then, first_row, begins_as, if_true, on_one_part, on_word, on_operator}
-use Rattle.lf_syntax.specs.Rows.{rows, operand_rows, argument_rows, operator_rows, group_end_rows, written_levels_rows, name_levels_rows, group_names_rows_by, binder_end_rows, binder_name_rows, bracket_name_rows, binders_at, unnamed}
+use Rattle.lf_syntax.specs.Rows.{
+  rows,
+  operand_rows,
+  argument_rows,
+  operator_rows,
+  group_end_rows,
+  written_levels_rows,
+  name_levels_rows,
+  group_names_rows_by,
+  binder_end_rows,
+  binder_name_rows,
+  bracket_name_rows,
+  binders_at,
+  unnamed,
+}
 use Rattle.lf_parse_term.specs.Descent.{stuck, Reading, read, reading, by_row, seq, maybe, or_else, ◌>>=◌}
 use Rattle.lf_parse_term.specs.Front.{word_rows, arrow_rows}
-use Rattle.lf_parse_term.specs.Spine.{settled, list_of, extend, extended, chained, chain_of, operation, closed_rows, name_terms, last_levels, end_by, named_close, names_end, bracket_type, bracket_end, bracket_name_by}
+use Rattle.lf_parse_term.specs.Spine.{
+  settled,
+  list_of,
+  extend,
+  extended,
+  chained,
+  chain_of,
+  operation,
+  closed_rows,
+  name_terms,
+  last_levels,
+  end_by,
+  named_close,
+  names_end,
+  bracket_type,
+  bracket_end,
+  bracket_name_by,
+}
 use Rattle.lf_parse_term.proofs.Machine.{then_same, then_ok, then_then}
 use Rattle.lf_parse_term.proofs.Laws.{read_is, begun, going}
-use Rattle.lf_parse_term.proofs.First.{word_first, part_first, name_first, arrow_first, append_first, first_append, first_by, first_or, named_rows, append_by, offered, else_by, gone}
+use Rattle.lf_parse_term.proofs.First.{
+  word_first,
+  part_first,
+  name_first,
+  arrow_first,
+  append_first,
+  first_append,
+  first_by,
+  first_or,
+  named_rows,
+  append_by,
+  offered,
+  else_by,
+  gone,
+}
 use Rattle.lf_parse_term.proofs.Arguments.{read_arguments}
 
 -- The terms with more arguments are this term, with operators behind it.
@@ -31,7 +76,8 @@ record Opens (terms : List TermTree) (T : List TermTree → TermTree) : Type 0 w
 abbrev ending : {V : Type 0} (E : Symbol) → (TermTree → Tree E → V) → (List TermTree → TermTree) → List TermTree → List Piece → Reading V
 ending E kE T more ts = seq (symbol.operators 0 operand_level ∷ E ∷ []) ts (λ ops e. kE (chain (T more) ops) e)
 
-ended : {V : Type 0} (E : Symbol) (kE : TermTree → Tree E → V) (terms : List TermTree) (T : List TermTree → TermTree) → Opens terms T → (m : Reading (List TermTree)) →
+ended : {V : Type 0} (E : Symbol) (kE : TermTree → Tree E → V) (terms : List TermTree) (T : List TermTree → TermTree) → Opens terms T
+    → (m : Reading (List TermTree)) →
     (m >>= ending E kE T) ≡ ((extended terms m >>= chain_of 0) >>= (λ t rest. seq (E ∷ []) rest (kE t)))
 unfolding extended chained
 ended E kE terms T o (Err e) = refl
@@ -39,7 +85,8 @@ ended {V} E kE terms T o (Ok x) =
     sym (ap (λ (m : Reading TermTree). m >>= (λ t rest. seq (E ∷ []) rest (kE t))) (o.opens x.0 x.1) ∙
     then_then (read (symbol.operators 0 operand_level) x.1) (λ ops rest. Ok (chain (T x.0) ops, rest)) (λ t rest. seq (E ∷ []) rest (kE t)))
 
-operation_is : {V : Type 0} (E : Symbol) (kE : TermTree → Tree E → V) (terms : List TermTree) (T : List TermTree → TermTree) → Opens terms T → (ts : List Piece) →
+operation_is : {V : Type 0} (E : Symbol) (kE : TermTree → Tree E → V) (terms : List TermTree) (T : List TermTree → TermTree) → Opens terms T
+    → (ts : List Piece) →
     (read symbol.arguments ts >>= ending E kE T) ≡ (operation 0 terms ts >>= (λ t rest. seq (E ∷ []) rest (kE t)))
 unfolding operation
 operation_is E kE terms T o ts = ended E kE terms T o (read symbol.arguments ts)
@@ -51,7 +98,8 @@ abbrev operator_part : {V : Type 0} (E : Symbol) → (TermTree → Tree E → V)
 operator_part E kE T = begins_as (operator_rows 0 operand_level) (E ∷ []) (λ ops e. kE (chain (T []) ops) e)
 
 operators_tail : {V : Type 0} (E : Symbol) (kE : TermTree → Tree E → V) (T : List TermTree → TermTree) (C : List (Row V)) →
-    ((ts : List Piece) → reading C None ts ≡ seq (E ∷ []) ts (kE (T []))) → (ts : List Piece) → reading (operator_part E kE T ++ C) None ts ≡ ending E kE T [] ts
+    ((ts : List Piece) → reading C None ts ≡ seq (E ∷ []) ts (kE (T []))) → (ts : List Piece)
+    → reading (operator_part E kE T ++ C) None ts ≡ ending E kE T [] ts
 operators_tail {V} E kE T C h ts =
     append_first (operator_rows 0 operand_level) (E ∷ []) (λ ops e. kE (chain (T []) ops) e) C None ts ∙
     sym (ap (λ (m : Reading (List (Op × TermTree))). m >>= (λ ops rest. seq (E ∷ []) rest (kE (chain (T []) ops))))
@@ -61,7 +109,8 @@ operators_tail {V} E kE T C h ts =
     (append_by (E ∷ []) (λ ops e. kE (chain (T []) ops) e) C None) go)
   where
     go : (m : Option (List (Op × TermTree))) (rest : List Piece) →
-        (else_by (Some []) m rest >>= (λ ops more. seq (E ∷ []) more (kE (chain (T []) ops)))) ≡ append_by (E ∷ []) (λ ops e. kE (chain (T []) ops) e) C None m rest
+        (else_by (Some []) m rest >>= (λ ops more. seq (E ∷ []) more (kE (chain (T []) ops))))
+        ≡ append_by (E ∷ []) (λ ops e. kE (chain (T []) ops) e) C None m rest
     go None rest = sym (h rest)
     go (Some ops) rest = refl
 
@@ -87,7 +136,8 @@ plain_name : (b : Bool) (x : Ident) (ls : List LevelTree) (more : List TermTree)
 plain_name true x ls more = refl
 plain_name false x ls more = refl
 
-names_extend : (before : List Ident) (x : Ident) (ls : List LevelTree) (more : List TermTree) → extend (name_terms before x ls) more ≡ name_terms before x ls ++ more
+names_extend : (before : List Ident) (x : Ident) (ls : List LevelTree) (more : List TermTree)
+    → extend (name_terms before x ls) more ≡ name_terms before x ls ++ more
 names_extend [] x ls more = plain_name (is_underscore x.name) x ls more
 names_extend (y ∷ []) x ls more = ap (λ ts. name_term y [] ∷ ts) (names_extend [] x ls more)
 names_extend (y ∷ z ∷ before) x ls more = ap (λ ts. name_term y [] ∷ ts) (names_extend (z ∷ before) x ls more)
@@ -106,7 +156,8 @@ names_opens before x ls = record { opens = λ more ts. ap (λ us. chain_of 0 us 
 -- The levels that may stand behind a name, and then the rest.
 levels_tail : {V : Type 0} (E : Symbol) (kE : TermTree → Tree E → V) (T : List LevelTree → List TermTree → TermTree) (qs : List (Row V)) →
     ((ts : List Piece) → reading qs None ts ≡ (read symbol.arguments ts >>= ending E kE (T []))) → (ts : List Piece) →
-    reading (begins_as written_levels_rows (symbol.arguments ∷ symbol.operators 0 operand_level ∷ E ∷ []) (λ ls more ops e. kE (chain (T ls more) ops) e) ++ qs) None ts ≡
+    reading (begins_as written_levels_rows (symbol.arguments ∷ symbol.operators 0 operand_level ∷ E ∷ []) (λ ls more ops e. kE (chain (T ls more) ops) e)
+    ++ qs) None ts ≡
     (read symbol.written_levels ts >>= (λ ls rest. read symbol.arguments rest >>= ending E kE (T ls)))
 levels_tail {V} E kE T qs h ts =
     append_first written_levels_rows (symbol.arguments ∷ symbol.operators 0 operand_level ∷ E ∷ []) (λ ls more ops e. kE (chain (T ls more) ops) e) qs None ts ∙
@@ -127,14 +178,16 @@ group_make at t e = with_arguments (paren at t (option_of e.ty)) e.arguments
 
 pub closed_is : (at : ℕ) (t : TermTree) (ts : List Piece) → seq (symbol.group_end ∷ []) ts (group_make at t) ≡ reading (closed_rows at t) None ts
 closed_is at t ts =
-    ap (λ (m : Reading GroupEnd). m >>= (λ e rest. Ok (group_make at t e, rest))) (read_is symbol.group_end ts) ∙ sym (gone group_end_rows [] (group_make at t) ts)
+    ap (λ (m : Reading GroupEnd). m >>= (λ e rest. Ok (group_make at t e, rest))) (read_is symbol.group_end ts)
+    ∙ sym (gone group_end_rows [] (group_make at t) ts)
 
 group_tail : (at : ℕ) (before : List Ident) (x : Ident) (ls : List LevelTree) (ts : List Piece) →
     (read symbol.arguments ts >>= ending symbol.group_end (group_make at) (spine_with before x ls)) ≡
     (operation 0 (name_terms before x ls) ts >>= (λ t rest. reading (closed_rows at t) None rest))
 group_tail at before x ls ts =
     operation_is symbol.group_end (group_make at) (name_terms before x ls) (spine_with before x ls) (names_opens before x ls) ts ∙
-    then_same (operation 0 (name_terms before x ls) ts) (λ t rest. seq (symbol.group_end ∷ []) rest (group_make at t)) (λ t rest. reading (closed_rows at t) None rest)
+    then_same (operation 0 (name_terms before x ls) ts) (λ t rest. seq (symbol.group_end ∷ []) rest (group_make at t))
+    (λ t rest. reading (closed_rows at t) None rest)
     (λ t rest. closed_is at t rest)
 
 abbrev rest_rows : ℕ → List Ident → Ident → List (Row Spine)
@@ -163,9 +216,11 @@ end_is : (k : BinderEnd → Spine) (ts : List Piece) → (read symbol.binder_end
 end_is k ts =
     ap (λ (m : Reading BinderEnd). m >>= (λ e rest. Ok (k e, rest)))
     (read_is symbol.binder_end ts ∙ arrow_first (then (symbol.term 0 ∷ []) arrow_to) (begins_as argument_rows [] arguments_to) (Some (arguments_to [])) ts) ∙
-    then_then (maybe arrow_rows ts) (first_by {A = Unit {0}} (λ _. then (symbol.term 0 ∷ []) arrow_to) (begins_as argument_rows [] arguments_to) (Some (arguments_to []))) (λ e rest. Ok (k e, rest)) ∙
+    then_then (maybe arrow_rows ts) (first_by {A = Unit {0}} (λ _. then (symbol.term 0 ∷ []) arrow_to) (begins_as argument_rows [] arguments_to)
+    (Some (arguments_to []))) (λ e rest. Ok (k e, rest)) ∙
     then_same (maybe arrow_rows ts)
-    (λ m rest. first_by {A = Unit {0}} (λ _. then (symbol.term 0 ∷ []) arrow_to) (begins_as argument_rows [] arguments_to) (Some (arguments_to [])) m rest >>= (λ e more. Ok (k e, more)))
+    (λ m rest. first_by {A = Unit {0}} (λ _. then (symbol.term 0 ∷ []) arrow_to) (begins_as argument_rows [] arguments_to) (Some (arguments_to [])) m rest
+    >>= (λ e more. Ok (k e, more)))
     (end_by k) go
   where
     arguments_by : (m : Option Spine) (rest : List Piece) →
@@ -175,7 +230,8 @@ end_is k ts =
     arguments_by (Some s) rest = refl
 
     go : (m : Option (Unit {0})) (rest : List Piece) →
-        (first_by {A = Unit {0}} (λ _. then (symbol.term 0 ∷ []) arrow_to) (begins_as argument_rows [] arguments_to) (Some (arguments_to [])) m rest >>= (λ e more. Ok (k e, more))) ≡ end_by k m rest
+        (first_by {A = Unit {0}} (λ _. then (symbol.term 0 ∷ []) arrow_to) (begins_as argument_rows [] arguments_to) (Some (arguments_to [])) m rest
+        >>= (λ e more. Ok (k e, more))) ≡ end_by k m rest
     go (Some u) rest = then_then (read (symbol.term 0) rest) (λ b more. Ok (arrow_to b, more)) (λ e more. Ok (k e, more))
     go None rest =
         ap (λ (m : Reading BinderEnd). m >>= (λ e more. Ok (k e, more))) (begun operand_rows [] (λ s. arguments_to (list_of s)) (Some (arguments_to [])) rest) ∙
@@ -192,44 +248,55 @@ worded {V} w ys k ts =
     word_first w (λ _. then ys k) [] None ts ∙
     sym (ap (λ (m : Reading (Unit {0})). m >>= (λ _ rest. seq ys rest k)) (read_is (symbol.token w) ts ∙ word_first w (λ _. then [] tt) [] None ts) ∙
     then_then (maybe (word_rows w) ts) (first_by (λ _. then [] tt) [] None) (λ _ rest. seq ys rest k) ∙
-    then_same (maybe (word_rows w) ts) (λ m rest. first_by {V = Unit {0}} (λ _. then [] tt) [] None m rest >>= (λ _ more. seq ys more k)) (first_by (λ _. then ys k) [] None) go)
+    then_same (maybe (word_rows w) ts) (λ m rest. first_by {V = Unit {0}} (λ _. then [] tt) [] None m rest >>= (λ _ more. seq ys more k))
+    (first_by (λ _. then ys k) [] None) go)
   where
-    go : (m : Option ℕ) (rest : List Piece) → (first_by {V = Unit {0}} (λ _. then [] tt) [] None m rest >>= (λ _ more. seq ys more k)) ≡ first_by (λ _. then ys k) [] None m rest
+    go : (m : Option ℕ) (rest : List Piece) → (first_by {V = Unit {0}} (λ _. then [] tt) [] None m rest >>= (λ _ more. seq ys more k))
+        ≡ first_by (λ _. then ys k) [] None m rest
     go (Some at) rest = refl
     go None [] = refl
     go None (t ∷ us) = refl
 
-close_is : (at : ℕ) (before : List Ident) (x : Ident) (ty : TermTree) (ts : List Piece) → seq (symbol.group_close ∷ []) ts (close_of at before x ty) ≡ named_close at before x ty ts
+close_is : (at : ℕ) (before : List Ident) (x : Ident) (ty : TermTree) (ts : List Piece)
+    → seq (symbol.group_close ∷ []) ts (close_of at before x ty) ≡ named_close at before x ty ts
 unfolding named_close
 close_is at before x ty ts =
     ap (λ (m : Reading BinderEnd). m >>= (λ e rest. Ok (close_of at before x ty e, rest)))
     (read_is symbol.group_close ts ∙ worded words.RightParen (symbol.binder_end ∷ []) (λ e. e) ts) ∙
-    then_then (read (symbol.token words.RightParen) ts) (λ _ rest. seq (symbol.binder_end ∷ []) rest (λ e. e)) (λ e rest. Ok (close_of at before x ty e, rest)) ∙
-    then_same (read (symbol.token words.RightParen) ts) (λ _ rest. seq (symbol.binder_end ∷ []) rest (λ e. e) >>= (λ e more. Ok (close_of at before x ty e, more)))
+    then_then (read (symbol.token words.RightParen) ts) (λ _ rest. seq (symbol.binder_end ∷ []) rest (λ e. e))
+    (λ e rest. Ok (close_of at before x ty e, rest)) ∙
+    then_same (read (symbol.token words.RightParen) ts)
+    (λ _ rest. seq (symbol.binder_end ∷ []) rest (λ e. e) >>= (λ e more. Ok (close_of at before x ty e, more)))
     (λ _ rest. maybe arrow_rows rest >>= end_by (close_of at before x ty))
-    (λ _ rest. ap (λ (m : Reading BinderEnd). m >>= (λ e more. Ok (close_of at before x ty e, more))) (then_ok (read symbol.binder_end rest)) ∙ end_is (close_of at before x ty) rest)
+    (λ _ rest. ap (λ (m : Reading BinderEnd). m >>= (λ e more. Ok (close_of at before x ty e, more))) (then_ok (read symbol.binder_end rest))
+    ∙ end_is (close_of at before x ty) rest)
 
 colon_is : (at : ℕ) (before : List Ident) (x : Ident) (ts : List Piece) →
-    reading (on_word words.Colon (λ _. then (symbol.term 0 ∷ symbol.group_close ∷ []) (close_of at before x)) ∷ name_levels_rows (is_underscore x.name) at before x ++ rest_rows at before x) None ts ≡
+    reading (on_word words.Colon (λ _. then (symbol.term 0 ∷ symbol.group_close ∷ []) (close_of at before x))
+    ∷ name_levels_rows (is_underscore x.name) at before x ++ rest_rows at before x) None ts ≡
     names_end at before x ts
 unfolding names_end
 colon_is at before x ts =
-    word_first words.Colon (λ _. then (symbol.term 0 ∷ symbol.group_close ∷ []) (close_of at before x)) (name_levels_rows (is_underscore x.name) at before x ++ rest_rows at before x) None ts ∙
+    word_first words.Colon (λ _. then (symbol.term 0 ∷ symbol.group_close ∷ []) (close_of at before x))
+    (name_levels_rows (is_underscore x.name) at before x ++ rest_rows at before x) None ts ∙
     then_same (maybe (word_rows words.Colon) ts)
-    (first_by (λ _. then (symbol.term 0 ∷ symbol.group_close ∷ []) (close_of at before x)) (name_levels_rows (is_underscore x.name) at before x ++ rest_rows at before x) None)
+    (first_by (λ _. then (symbol.term 0 ∷ symbol.group_close ∷ []) (close_of at before x))
+    (name_levels_rows (is_underscore x.name) at before x ++ rest_rows at before x) None)
     (λ m rest. elim m as (λ _. Reading Spine) [
       | Some _ ↦ read (symbol.term 0) rest >>= (λ ty more. named_close at before x ty more)
       | None ↦ last_levels x rest >>= (λ ls more. operation 0 (name_terms before x ls) more >>= (λ t end. reading (closed_rows at t) None end))
     ]) go
   where
     go : (m : Option ℕ) (rest : List Piece) →
-        first_by (λ _. then (symbol.term 0 ∷ symbol.group_close ∷ []) (close_of at before x)) (name_levels_rows (is_underscore x.name) at before x ++ rest_rows at before x) None m rest ≡
+        first_by (λ _. then (symbol.term 0 ∷ symbol.group_close ∷ []) (close_of at before x))
+        (name_levels_rows (is_underscore x.name) at before x ++ rest_rows at before x) None m rest ≡
         elim m as (λ _. Reading Spine) [
           | Some _ ↦ read (symbol.term 0) rest >>= (λ ty more. named_close at before x ty more)
           | None ↦ last_levels x rest >>= (λ ls more. operation 0 (name_terms before x ls) more >>= (λ t end. reading (closed_rows at t) None end))
         ]
     go (Some p) rest =
-        then_same (read (symbol.term 0) rest) (λ ty more. seq (symbol.group_close ∷ []) more (close_of at before x ty)) (λ ty more. named_close at before x ty more)
+        then_same (read (symbol.term 0) rest) (λ ty more. seq (symbol.group_close ∷ []) more (close_of at before x ty))
+        (λ ty more. named_close at before x ty more)
         (λ ty more. close_is at before x ty more)
     go None rest = named_rest (is_underscore x.name) at before x rest
 
@@ -239,7 +306,8 @@ group_names_by at before x None ts = names_end at before x ts
 
 abbrev more_rows : ℕ → List Ident → Ident → List (Row Spine)
 more_rows at before x =
-    on_word words.Colon (λ _. then (symbol.term 0 ∷ symbol.group_close ∷ []) (close_of at before x)) ∷ name_levels_rows (is_underscore x.name) at before x ++ rest_rows at before x
+    on_word words.Colon (λ _. then (symbol.term 0 ∷ symbol.group_close ∷ []) (close_of at before x))
+    ∷ name_levels_rows (is_underscore x.name) at before x ++ rest_rows at before x
 
 rows_by : (b : Bool) (at : ℕ) (before : List Ident) (x : Ident) →
     group_names_rows_by b at before x ≡
@@ -258,7 +326,8 @@ read_group_names at before x ts =
     (group_names_by at before x) go
   where
     go : (m : Option Ident) (rest : List Piece) →
-        first_by (λ y. then (symbol.group_names at (before ++ (x ∷ [])) y ∷ []) (λ s. s)) (more_rows at before x) None m rest ≡ group_names_by at before x m rest
+        first_by (λ y. then (symbol.group_names at (before ++ (x ∷ [])) y ∷ []) (λ s. s)) (more_rows at before x) None m rest
+        ≡ group_names_by at before x m rest
     go (Some y) rest = then_ok (read (symbol.group_names at (before ++ (x ∷ [])) y) rest)
     go None rest = colon_is at before x rest
 
@@ -298,13 +367,15 @@ abbrev bracket_rest : ℕ → Ident → List (Row Binders)
 bracket_rest at x =
     begins_as written_levels_rows (symbol.arguments ∷ symbol.operators 0 operand_level ∷ symbol.token words.RightBracket ∷ [])
     (λ ls ts ops _. unnamed at (chain (applied (name_term x ls) ts) ops)) ++
-    begins_as argument_rows (symbol.operators 0 operand_level ∷ symbol.token words.RightBracket ∷ []) (λ ts ops _. unnamed at (chain (applied (name_term x []) ts) ops)) ++
+    begins_as argument_rows (symbol.operators 0 operand_level ∷ symbol.token words.RightBracket ∷ [])
+    (λ ts ops _. unnamed at (chain (applied (name_term x []) ts) ops)) ++
     begins_as (operator_rows 0 operand_level) (symbol.token words.RightBracket ∷ []) (λ ops _. unnamed at (chain (name_term x []) ops))
 
 abbrev close_row : ℕ → Ident → ℕ → Prod Binders
 close_row at x p = then [] (unnamed at (name_term x []))
 
-type_is : (at : ℕ) (x : Ident) (ts : List Piece) → reading (bracket_rest at x ++ (on_word words.RightBracket (close_row at x) ∷ [])) None ts ≡ bracket_type at x ts
+type_is : (at : ℕ) (x : Ident) (ts : List Piece) → reading (bracket_rest at x ++ (on_word words.RightBracket (close_row at x) ∷ [])) None ts
+    ≡ bracket_type at x ts
 type_is at x ts =
     levels_tail (symbol.token words.RightBracket) (close_make at) (λ ls. applied (name_term x ls))
     (operand_part (symbol.token words.RightBracket) (close_make at) (applied (name_term x [])) ++
@@ -316,13 +387,15 @@ type_is at x ts =
     (λ ls rest. operation 0 (name_term x ls ∷ []) rest >>= (λ ty more. seq (symbol.token words.RightBracket ∷ []) more (λ _. unnamed at ty)))
     (λ ls rest. operation_is (symbol.token words.RightBracket) (close_make at) (name_term x ls ∷ []) (applied (name_term x ls)) (name_opens x ls) rest)
 
-pub read_bracket_name : (at : ℕ) (x : Ident) (ts : List Piece) → read (symbol.bracket_name at x) ts ≡ (maybe (word_rows words.Colon) ts >>= bracket_name_by at x)
+pub read_bracket_name : (at : ℕ) (x : Ident) (ts : List Piece)
+    → read (symbol.bracket_name at x) ts ≡ (maybe (word_rows words.Colon) ts >>= bracket_name_by at x)
 read_bracket_name at x ts =
     read_is (symbol.bracket_name at x) ts ∙
     word_first words.Colon (λ _. then (symbol.term 0 ∷ symbol.token words.RightBracket ∷ []) (λ ty _. binders_at at Inst (x ∷ []) ty))
     (on_word words.RightBracket (close_row at x) ∷ bracket_rest at x) None ts ∙
     then_same (maybe (word_rows words.Colon) ts)
-    (first_by (λ _. then (symbol.term 0 ∷ symbol.token words.RightBracket ∷ []) (λ ty _. binders_at at Inst (x ∷ []) ty)) (on_word words.RightBracket (close_row at x) ∷ bracket_rest at x) None)
+    (first_by (λ _. then (symbol.term 0 ∷ symbol.token words.RightBracket ∷ []) (λ ty _. binders_at at Inst (x ∷ []) ty))
+    (on_word words.RightBracket (close_row at x) ∷ bracket_rest at x) None)
     (bracket_name_by at x) go
   where
     closes : (m : Option ℕ) (rest : List Piece) →
@@ -331,9 +404,11 @@ read_bracket_name at x ts =
     closes None rest = type_is at x rest
 
     go : (m : Option ℕ) (rest : List Piece) →
-        first_by (λ _. then (symbol.term 0 ∷ symbol.token words.RightBracket ∷ []) (λ ty _. binders_at at Inst (x ∷ []) ty)) (on_word words.RightBracket (close_row at x) ∷ bracket_rest at x) None m rest ≡
+        first_by (λ _. then (symbol.term 0 ∷ symbol.token words.RightBracket ∷ []) (λ ty _. binders_at at Inst (x ∷ []) ty))
+        (on_word words.RightBracket (close_row at x) ∷ bracket_rest at x) None m rest ≡
         bracket_name_by at x m rest
     go (Some p) rest = refl
     go None rest =
         word_last words.RightBracket (close_row at x) (bracket_rest at x) rest ∙
-        then_same (maybe (word_rows words.RightBracket) rest) (first_by (close_row at x) (bracket_rest at x ++ (on_word words.RightBracket (close_row at x) ∷ [])) None) (bracket_end at x) closes
+        then_same (maybe (word_rows words.RightBracket) rest)
+        (first_by (close_row at x) (bracket_rest at x ++ (on_word words.RightBracket (close_row at x) ∷ [])) None) (bracket_end at x) closes

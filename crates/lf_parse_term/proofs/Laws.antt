@@ -13,7 +13,25 @@ use Rattle.lf_syntax.specs.Symbol.{Symbol, Tree}
 use Rattle.lf_syntax.specs.Symbol as symbol
 use Rattle.lf_syntax.specs.Predictive.{join}
 use Rattle.lf_syntax.specs.Grammar.{grammar}
-use Rattle.lf_syntax.specs.Row.{Row, Prod, then, first_row, begins_as, row_then, and_then, try, if_true, is_one_part, on_word, on_name, on_one_part, on_spelling, on_number, on_digit, on_operator}
+use Rattle.lf_syntax.specs.Row.{
+  Row,
+  Prod,
+  then,
+  first_row,
+  begins_as,
+  row_then,
+  and_then,
+  try,
+  if_true,
+  is_one_part,
+  on_word,
+  on_name,
+  on_one_part,
+  on_spelling,
+  on_number,
+  on_digit,
+  on_operator,
+}
 use Rattle.lf_parse_term.specs.Machine as machine
 use Rattle.lf_parse_term.specs.Machine.{Move, goes, ends, stops}
 use Rattle.lf_parse_term.proofs.Machine.{then_same, then_ok, then_then, moved, split, none}
@@ -67,14 +85,17 @@ pub seq_join : {A V : Type 0} (xs ys : List Symbol) (ts : List Piece) (f : Takes
     seq (xs ++ ys) ts (join Tree V xs ys f k) ≡ (seq xs ts f >>= (λ a rest. seq ys rest (k a)))
 seq_join [] ys ts f k = refl
 seq_join (x ∷ xs) ys ts f k =
-    then_same (read x ts) (λ v rest. seq (xs ++ ys) rest (join Tree _ xs ys (f v) k)) (λ v rest. seq xs rest (f v) >>= (λ a more. seq ys more (k a))) (λ v rest. seq_join xs ys rest (f v) k) ∙
+    then_same (read x ts) (λ v rest. seq (xs ++ ys) rest (join Tree _ xs ys (f v) k)) (λ v rest. seq xs rest (f v) >>= (λ a more. seq ys more (k a)))
+    (λ v rest. seq_join xs ys rest (f v) k) ∙
     sym (then_then (read x ts) (λ v rest. seq xs rest (f v)) (λ a rest. seq ys rest (k a)))
 
-if_mapped : {A V : Type 0} (b : Bool) (p : Prod A) (ys : List Symbol) (k : A → Takes Tree ys V) → if_true b (and_then p ys k) ≡ option_map (λ q. and_then q ys k) (if_true b p)
+if_mapped : {A V : Type 0} (b : Bool) (p : Prod A) (ys : List Symbol) (k : A → Takes Tree ys V)
+    → if_true b (and_then p ys k) ≡ option_map (λ q. and_then q ys k) (if_true b p)
 if_mapped true p ys k = refl
 if_mapped false p ys k = refl
 
-begun_row : {A V : Type 0} (r : Row A) (ys : List Symbol) (k : A → Takes Tree ys V) (c : Class) (at : ℕ) → try (row_then r ys k) c at ≡ option_map (λ p. and_then p ys k) (try r c at)
+begun_row : {A V : Type 0} (r : Row A) (ys : List Symbol) (k : A → Takes Tree ys V) (c : Class) (at : ℕ)
+    → try (row_then r ys k) c at ≡ option_map (λ p. and_then p ys k) (try r c at)
 begun_row (on_word w f) ys k (word v) at = if_mapped (nat_eq (word_code w) (word_code v)) (f at) ys k
 begun_row (on_word w f) ys k (name s x) at = refl
 begun_row (on_word w f) ys k (number n digits) at = refl
@@ -139,7 +160,8 @@ begun {A} {V} rs ys k o (t ∷ ts) =
     ap (λ (q : Option (Prod V)). by_row q o t ts) (first_begun rs ys k t.class t.at) ∙ go (first_row rs t.class t.at) ∙
     sym (ap (λ (q : Option (Prod (Option A))). by_row q (Some None) t ts >>= going ys k o) (first_begun rs [] (λ a. Some a) t.class t.at))
   where
-    go : (q : Option (Prod A)) → by_row (option_map (λ p. and_then p ys k) q) o t ts ≡ (by_row (option_map (λ p. and_then p [] (λ a. Some a)) q) (Some None) t ts >>= going ys k o)
+    go : (q : Option (Prod A)) → by_row (option_map (λ p. and_then p ys k) q) o t ts
+        ≡ (by_row (option_map (λ p. and_then p [] (λ a. Some a)) q) (Some None) t ts >>= going ys k o)
     go None = refl
     go (Some p) = goes_on p ys k o ts
 
@@ -192,7 +214,8 @@ read_word w (t ∷ ts) = read_is (symbol.token w) (t ∷ ts) ∙ word_class w t 
 pub read_level_atom : (ts : List Piece) → read symbol.level_atom ts ≡ (maybe level_atom_rows ts >>= need)
 read_level_atom ts = read_is symbol.level_atom ts ∙ needed level_atom_rows ts
 
-pub read_level_atoms : (ts : List Piece) → read symbol.level_atoms ts ≡ (maybe level_atom_rows ts >>= going (symbol.level_atoms ∷ []) (λ l ls. l ∷ ls) (Some []))
+pub read_level_atoms : (ts : List Piece) → read symbol.level_atoms ts
+    ≡ (maybe level_atom_rows ts >>= going (symbol.level_atoms ∷ []) (λ l ls. l ∷ ls) (Some []))
 read_level_atoms ts = read_is symbol.level_atoms ts ∙ begun level_atom_rows (symbol.level_atoms ∷ []) (λ l ls. l ∷ ls) (Some []) ts
 
 abbrev level_rest : (x : Ident) (ys : List Symbol) → (LevelTree → Takes Tree ys LevelTree) → Option LevelTree → List Piece → Reading LevelTree
@@ -260,10 +283,19 @@ words_level x ys k (t ∷ ts) = words_class x ys k t ts t.class t.at (named_is x
 pub read_max : (x : Ident) (ts : List Piece) → read (symbol.max_rest x) ts ≡ (maybe level_atom_rows ts >>= max_of x)
 read_max x ts =
     read_is (symbol.max_rest x) ts ∙ words_level x (symbol.level_atom ∷ symbol.level_atoms ∷ []) (λ k l ls. level_max x.at (levels_of (k ∷ l ∷ ls))) ts ∙
-    then_same (maybe level_atom_rows ts) (λ m rest. elim m as (λ _. Reading LevelTree) [ None ↦ named x rest | Some a ↦ seq (symbol.level_atom ∷ symbol.level_atoms ∷ []) rest (λ l ls. level_max x.at (levels_of (a ∷ l ∷ ls))) ]) (max_of x) go
+    then_same (maybe level_atom_rows ts) (λ m rest.
+    elim m as (λ _. Reading LevelTree) [
+      | None ↦ named x rest
+      | Some a ↦
+          seq (symbol.level_atom ∷ symbol.level_atoms ∷ []) rest (λ l ls. level_max x.at (levels_of (a ∷ l ∷ ls)))
+    ]) (max_of x) go
   where
     go : (m : Option LevelTree) (rest : List Piece) →
-        ◌≡◌ {A = Reading LevelTree} (elim m [ None ↦ named x rest | Some a ↦ seq (symbol.level_atom ∷ symbol.level_atoms ∷ []) rest (λ l ls. level_max x.at (levels_of (a ∷ l ∷ ls))) ]) (max_of x m rest)
+        ◌≡◌ {A = Reading LevelTree} (elim m [
+          | None ↦ named x rest
+          | Some a ↦
+              seq (symbol.level_atom ∷ symbol.level_atoms ∷ []) rest (λ l ls. level_max x.at (levels_of (a ∷ l ∷ ls)))
+        ]) (max_of x m rest)
     go None rest = refl
     go (Some a) rest =
         then_same (read symbol.level_atom rest) (λ l more. seq (symbol.level_atoms ∷ []) more (λ ls. level_max x.at (levels_of (a ∷ l ∷ ls))))
@@ -272,7 +304,8 @@ read_max x ts =
 
 pub read_imax : (x : Ident) (ts : List Piece) → read (symbol.imax_rest x) ts ≡ (maybe level_atom_rows ts >>= imax_of x)
 read_imax x ts = read_is (symbol.imax_rest x) ts ∙ words_level x (symbol.level_atom ∷ []) (λ k l. level_imax x.at k l) ts ∙
-    then_same (maybe level_atom_rows ts) (λ m rest. elim m as (λ _. Reading LevelTree) [ None ↦ named x rest | Some a ↦ seq (symbol.level_atom ∷ []) rest (λ l. level_imax x.at a l) ]) (imax_of x) go
+    then_same (maybe level_atom_rows ts) (λ m rest.
+    elim m as (λ _. Reading LevelTree) [ None ↦ named x rest | Some a ↦ seq (symbol.level_atom ∷ []) rest (λ l. level_imax x.at a l) ]) (imax_of x) go
   where
     go : (m : Option LevelTree) (rest : List Piece) →
         ◌≡◌ {A = Reading LevelTree} (elim m [ None ↦ named x rest | Some a ↦ seq (symbol.level_atom ∷ []) rest (λ l. level_imax x.at a l) ]) (imax_of x m rest)
@@ -289,7 +322,8 @@ pub word_taken : (w v : Word) (s : Spot) (rest ts : List Piece) → v ≡ w → 
 word_taken w v s rest ts e h =
     subst (λ (us : List Piece). ◌≡◌ {A = Reading (Unit {0})} (read (symbol.token w) us) (Ok (tt, rest))) h
     (read_is (symbol.token w) (piece (word v) s ∷ rest) ∙
-    ap (λ (b : Bool). by_row {V = Unit {0}} (first_row_by b (then [] tt)) None (piece (word v) s) rest) (eq-eqb (word_code w) (word_code v) (ap word_code (sym e))))
+    ap (λ (b : Bool). by_row {V = Unit {0}} (first_row_by b (then [] tt)) None (piece (word v) s) rest)
+    (eq-eqb (word_code w) (word_code v) (ap word_code (sym e))))
 
 pub read_any_name : (ts : List Piece) → read symbol.any_name ts ≡ reading (rows symbol.any_name) None ts
 read_any_name ts = read_is symbol.any_name ts
@@ -309,7 +343,8 @@ read_any_names ts = read_is symbol.any_names ts
 pub read_one_parts : (ts : List Piece) → read symbol.one_parts ts ≡ (maybe one_part_rows ts >>= going (symbol.one_parts ∷ []) (λ x xs. x ∷ xs) (Some []))
 read_one_parts ts = read_is symbol.one_parts ts ∙ begun one_part_rows (symbol.one_parts ∷ []) (λ x xs. x ∷ xs) (Some []) ts
 
-pub read_binder_names : (ts : List Piece) → read symbol.binder_names ts ≡ (maybe binder_name_rows ts >>= going (symbol.binder_names ∷ []) (λ x xs. x ∷ xs) (Some []))
+pub read_binder_names : (ts : List Piece) → read symbol.binder_names ts
+    ≡ (maybe binder_name_rows ts >>= going (symbol.binder_names ∷ []) (λ x xs. x ∷ xs) (Some []))
 read_binder_names ts = read_is symbol.binder_names ts ∙ begun binder_name_rows (symbol.binder_names ∷ []) (λ x xs. x ∷ xs) (Some []) ts
 
 pub read_more_level_names : (ts : List Piece) → read symbol.more_level_names ts ≡ reading (rows symbol.more_level_names) None ts
@@ -342,4 +377,5 @@ read_arrow ts = read_is symbol.arrow_token ts
 pub some_taken : (w v : Word) (s : Spot) (rest ts : List Piece) → v ≡ w → piece (word v) s ∷ rest ≡ ts → maybe (word_rows w) ts ≡ Ok (Some s.at, rest)
 some_taken w v s rest ts e h =
     subst (λ (us : List Piece). maybe (word_rows w) us ≡ Ok (Some s.at, rest)) h
-    (ap (λ (b : Bool). by_row {V = Option ℕ} (first_row_by b (then [] (Some s.at))) (Some None) (piece (word v) s) rest) (eq-eqb (word_code w) (word_code v) (ap word_code (sym e))))
+    (ap (λ (b : Bool). by_row {V = Option ℕ} (first_row_by b (then [] (Some s.at))) (Some None) (piece (word v) s) rest)
+    (eq-eqb (word_code w) (word_code v) (ap word_code (sym e))))

@@ -4,7 +4,8 @@ use Rattle.lf_syntax.specs.Piece.{Piece}
 use Rattle.lf_parse_term.specs.Descent.{Reading, behind, ◌>>=◌}
 use Rattle.lf_parse_term.specs.declared.halt.Halt.{Halt}
 
-pub behind_one : {A : Type 0} (before : List A) (a : A) (m : Reading (List A)) → behind (before ++ (a ∷ [])) m ≡ behind before (m >>= (λ more rest. Ok (a ∷ more, rest)))
+pub behind_one : {A : Type 0} (before : List A) (a : A) (m : Reading (List A))
+    → behind (before ++ (a ∷ [])) m ≡ behind before (m >>= (λ more rest. Ok (a ∷ more, rest)))
 unfolding behind
 behind_one {A} before a (Ok x) = ap (λ (all : List A). Ok (all, x.1)) (append_assoc before (a ∷ []) x.0)
 behind_one before a (Err e) = refl
@@ -18,7 +19,8 @@ dropped : {A : Type 0} (before more : List A) → drop (length before) (before +
 dropped [] more = refl
 dropped (a ∷ before) more = dropped before more
 
-pub behind_tail : {A : Type 0} (before : List A) (m : Reading (List A)) (all : List A) (rest : List Piece) → behind before m ≡ Ok (all, rest) → m ≡ Ok (drop (length before) all, rest)
+pub behind_tail : {A : Type 0} (before : List A) (m : Reading (List A)) (all : List A) (rest : List Piece) → behind before m ≡ Ok (all, rest)
+    → m ≡ Ok (drop (length before) all, rest)
 unfolding behind
 behind_tail {A} before (Ok x) all rest e =
     let h : ◌≡◌ {A = List A × List Piece} (before ++ x.0, x.1) (all, rest) = cc in
@@ -27,7 +29,8 @@ behind_tail {A} before (Ok x) all rest e =
     λ i. Ok ((sym (dropped before x.0) ∙ ap (drop (length before)) p) i, q i)
 behind_tail before (Err h) all rest e = cc
 
-pub behind_whole : {A : Type 0} (before : List A) (m : Reading (List A)) (all : List A) (rest : List Piece) → behind before m ≡ Ok (all, rest) → before ++ drop (length before) all ≡ all
+pub behind_whole : {A : Type 0} (before : List A) (m : Reading (List A)) (all : List A) (rest : List Piece) → behind before m ≡ Ok (all, rest)
+    → before ++ drop (length before) all ≡ all
 unfolding behind
 behind_whole {A} before (Ok x) all rest e =
     let h : ◌≡◌ {A = List A × List Piece} (before ++ x.0, x.1) (all, rest) = cc in

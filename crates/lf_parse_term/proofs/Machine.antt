@@ -28,7 +28,8 @@ assoc [] ys zs = λ i. ys ++ zs
 assoc (x ∷ xs) ys zs = λ i. x ∷ assoc xs ys zs i
 
 join_assoc : {A R : Type 0} (B : Type 0) (g : Grammar) (xs ys zs : List g.S) (f : Takes g.Tree xs A) (k : A → Takes g.Tree ys R) (h : R → Takes g.Tree zs B) →
-    PathP (λ i. Takes g.Tree (assoc xs ys zs i) B) (join g.Tree B (xs ++ ys) zs (join g.Tree R xs ys f k) h) (join g.Tree B xs (ys ++ zs) f (λ a. join g.Tree B ys zs (k a) h))
+    PathP (λ i. Takes g.Tree (assoc xs ys zs i) B) (join g.Tree B (xs ++ ys) zs (join g.Tree R xs ys f k) h)
+    (join g.Tree B xs (ys ++ zs) f (λ a. join g.Tree B ys zs (k a) h))
 join_assoc B g [] ys zs f k h = λ i. join g.Tree B ys zs (k f) h
 join_assoc B g (x ∷ xs) ys zs f k h = λ i v. join_assoc B g xs ys zs (f v) k h i
 
@@ -45,7 +46,8 @@ unfolding all
 split_end g [] ys f k = refl
 split_end {A} {R} g (x ∷ xs) ys f k = go (g.without x) (λ v. split_end g xs ys (f v) k)
   where
-    go : (o : Option (g.Tree x)) → ((v : g.Tree x) → finish g (xs ++ ys) (join g.Tree R xs ys (f v) k) ≡ then (finish g xs (f v)) (λ a rest. all g rest ys (k a))) →
+    go : (o : Option (g.Tree x)) → ((v : g.Tree x)
+        → finish g (xs ++ ys) (join g.Tree R xs ys (f v) k) ≡ then (finish g xs (f v)) (λ a rest. all g rest ys (k a))) →
         ◌≡◌ {A = Reading g.T R} (elim o [ None ↦ Err (Stuck 0) | Some v ↦ finish g (xs ++ ys) (join g.Tree R xs ys (f v) k) ])
         (then (elim o as (λ _. Reading g.T A) [ None ↦ Err (Stuck 0) | Some v ↦ finish g xs (f v) ]) (λ a rest. all g rest ys (k a)))
     go None ih = refl
@@ -59,14 +61,16 @@ split_move g [] ys f k t ts ih = refl
 split_move {A} {R} g (x ∷ xs) ys f k t ts ih = taken (g.begin x t) (λ v. split_move g xs ys (f v) k t ts ih)
   where
     skips : (o : Option (g.Tree x)) →
-        ((v : g.Tree x) → moved g t ts (move g (xs ++ ys) (join g.Tree R xs ys (f v) k) t) ≡ then (moved g t ts (move g xs (f v) t)) (λ a rest. all g rest ys (k a))) →
+        ((v : g.Tree x) → moved g t ts (move g (xs ++ ys) (join g.Tree R xs ys (f v) k) t)
+        ≡ then (moved g t ts (move g xs (f v) t)) (λ a rest. all g rest ys (k a))) →
         moved g t ts (elim o as (λ _. Move g R) [ None ↦ stops | Some v ↦ move g (xs ++ ys) (join g.Tree R xs ys (f v) k) t ]) ≡
         then (moved g t ts (elim o as (λ _. Move g A) [ None ↦ stops | Some v ↦ move g xs (f v) t ])) (λ a rest. all g rest ys (k a))
     skips None more = refl
     skips (Some v) more = more v
 
     taken : (o : Option (Production g.S g.Tree (g.Tree x))) →
-        ((v : g.Tree x) → moved g t ts (move g (xs ++ ys) (join g.Tree R xs ys (f v) k) t) ≡ then (moved g t ts (move g xs (f v) t)) (λ a rest. all g rest ys (k a))) →
+        ((v : g.Tree x) → moved g t ts (move g (xs ++ ys) (join g.Tree R xs ys (f v) k) t)
+        ≡ then (moved g t ts (move g xs (f v) t)) (λ a rest. all g rest ys (k a))) →
         moved g t ts (elim o as (λ _. Move g R) [
           | Some p ↦ goes (p.body ++ (xs ++ ys)) (join g.Tree R p.body (xs ++ ys) p.build (λ v. join g.Tree R xs ys (f v) k))
           | None ↦ elim (g.without x) [ None ↦ stops | Some v ↦ move g (xs ++ ys) (join g.Tree R xs ys (f v) k) t ]

@@ -1,5 +1,30 @@
 -- Levels that are read as terms.
-use Rattle.std.proofs.Common.{◌≡◌, ◌≤◌, ◌<◌, ◌+◌, ℕ, Bool, true, false, List, [], ◌∷◌, ◌++◌, length, Option, None, Some, codes, refl, sym, ap, ◌∙◌, arith, append_assoc, append-nil}
+use Rattle.std.proofs.Common.{
+  ◌≡◌,
+  ◌≤◌,
+  ◌<◌,
+  ◌+◌,
+  ℕ,
+  Bool,
+  true,
+  false,
+  List,
+  [],
+  ◌∷◌,
+  ◌++◌,
+  length,
+  Option,
+  None,
+  Some,
+  codes,
+  refl,
+  sym,
+  ap,
+  ◌∙◌,
+  arith,
+  append_assoc,
+  append-nil,
+}
 use Rattle.lf_syntax.specs.declared.leaf.Ident.{Ident}
 use Rattle.lf_syntax.specs.Tree.{LevelTree, TermTree, level_max, levels_of, terms_of}
 use Rattle.lf_syntax.specs.Size.{term_size, terms_size}
@@ -12,22 +37,34 @@ applied_none at (Some x) = refl
 
 pub applied_max : (at : ℕ) (m : Option Ident) (ls : List LevelTree) → named_so (codes "max") m ≡ true → applied_level at m (Some ls) ≡ max_level at ls
 applied_max at None ls e = cc
-applied_max at (Some x) ls e = ap (λ b. elim b as (λ _. Option LevelTree) [ true ↦ max_level at ls | false ↦ elim (is_named (codes "imax") x.name) [ true ↦ imax_level at ls | false ↦ None ] ]) e
+applied_max at (Some x) ls e = ap (λ b. elim b as (λ _. Option LevelTree)
+    [ true ↦ max_level at ls | false ↦ elim (is_named (codes "imax") x.name) [ true ↦ imax_level at ls | false ↦ None ] ]) e
 
-pub applied_imax : (at : ℕ) (m : Option Ident) (ls : List LevelTree) → named_so (codes "max") m ≡ false → named_so (codes "imax") m ≡ true → applied_level at m (Some ls) ≡ imax_level at ls
+pub applied_imax : (at : ℕ) (m : Option Ident) (ls : List LevelTree) → named_so (codes "max") m ≡ false → named_so (codes "imax") m ≡ true
+    → applied_level at m (Some ls) ≡ imax_level at ls
 applied_imax at None ls e f = cc
 applied_imax at (Some x) ls e f =
-    ap (λ b. elim b as (λ _. Option LevelTree) [ true ↦ max_level at ls | false ↦ elim (is_named (codes "imax") x.name) [ true ↦ imax_level at ls | false ↦ None ] ]) e ∙
+    ap (λ b. elim b as (λ _. Option LevelTree) [
+      | true ↦ max_level at ls
+      | false ↦
+          elim (is_named (codes "imax") x.name) [ true ↦ imax_level at ls | false ↦ None ]
+    ]) e ∙
     ap (λ b. elim b as (λ _. Option LevelTree) [ true ↦ imax_level at ls | false ↦ None ]) f
 
-pub applied_other : (at : ℕ) (m : Option Ident) (o : Option (List LevelTree)) → named_so (codes "max") m ≡ false → named_so (codes "imax") m ≡ false → applied_level at m o ≡ None
+pub applied_other : (at : ℕ) (m : Option Ident) (o : Option (List LevelTree)) → named_so (codes "max") m ≡ false → named_so (codes "imax") m ≡ false
+    → applied_level at m o ≡ None
 applied_other at None o e f = refl
 applied_other at (Some x) None e f = refl
 applied_other at (Some x) (Some ls) e f =
-    ap (λ b. elim b as (λ _. Option LevelTree) [ true ↦ max_level at ls | false ↦ elim (is_named (codes "imax") x.name) [ true ↦ imax_level at ls | false ↦ None ] ]) e ∙
+    ap (λ b. elim b as (λ _. Option LevelTree) [
+      | true ↦ max_level at ls
+      | false ↦
+          elim (is_named (codes "imax") x.name) [ true ↦ imax_level at ls | false ↦ None ]
+    ]) e ∙
     ap (λ b. elim b as (λ _. Option LevelTree) [ true ↦ imax_level at ls | false ↦ None ]) f
 
-pub prefixed_one : (before : List LevelTree) (l : LevelTree) (m : Option (List LevelTree)) → prefixed (before ++ (l ∷ [])) m ≡ prefixed before (level_and_more (Some l) m)
+pub prefixed_one : (before : List LevelTree) (l : LevelTree) (m : Option (List LevelTree))
+    → prefixed (before ++ (l ∷ [])) m ≡ prefixed before (level_and_more (Some l) m)
 unfolding prefixed
 prefixed_one before l None = refl
 prefixed_one before l (Some ls) = ap (λ all. Some all) (append_assoc before (l ∷ []) ls)

@@ -34,12 +34,14 @@ pub binding_told : (make : LBinderTrees → TermTree → TermTree) (w : Word) (b
 binding_told make w b bs t ts us vs ws rest e f g h =
     let all : List LBinderTree = map lbinder_tree bs in
     rw e (rw (behind_tail (b ∷ []) (read symbol.lambda_binders us) all vs f) (rw g (rw h
-    (ap (λ (xs : LBinderTrees). Ok (some_lead (make xs t), rest)) (ap binders_of (behind_whole (b ∷ []) (read symbol.lambda_binders us) all vs f) ∙ sym (lambdas_are bs))))))
+    (ap (λ (xs : LBinderTrees). Ok (some_lead (make xs t), rest))
+    (ap binders_of (behind_whole (b ∷ []) (read symbol.lambda_binders us) all vs f) ∙ sym (lambdas_are bs))))))
 
 pub brace_told : (at : ℕ) (x : Ident) (names : List Ident) (ty : TermTree) (ts us vs ws ys rest : List Piece) →
     read symbol.binder_name ts ≡ Ok (x, us) → behind (x ∷ []) (read symbol.binder_names us) ≡ Ok (names, vs) →
     read (symbol.token words.Colon) vs ≡ Ok (tt, ws) → read (symbol.term 0) ws ≡ Ok (ty, ys) → read (symbol.token words.RightBrace) ys ≡ Ok (tt, rest) →
-    seq (symbol.binder_name ∷ symbol.binder_names ∷ symbol.token words.Colon ∷ symbol.term 0 ∷ symbol.token words.RightBrace ∷ symbol.arrow_token ∷ symbol.term 0 ∷ []) ts
+    seq (symbol.binder_name ∷ symbol.binder_names ∷ symbol.token words.Colon ∷ symbol.term 0 ∷ symbol.token words.RightBrace ∷ symbol.arrow_token
+    ∷ symbol.term 0 ∷ []) ts
     (λ a more _ u _ _ t. some_lead (arrow at (binders at Implicit (a ∷ more) u) t)) ≡
     seq (symbol.arrow_token ∷ symbol.term 0 ∷ []) rest (λ _ t. some_lead (arrow at (binders at Implicit names ty) t))
 brace_told at x names ty ts us vs ws ys rest e f g h k =
@@ -55,7 +57,8 @@ implicit_told s x names ty ts us vs ws rest e f g h =
     (rw f (rw (behind_tail (x ∷ []) (read symbol.binder_names vs) names ws g) (rw h
     (ap (λ (xs : List Ident). Ok (Some (implicit_binder s.at xs ty), rest)) (behind_whole (x ∷ []) (read symbol.binder_names vs) names ws g)))))
 
-spine_all : (before : List Ident) (x : Ident) → applied (names_spine before x []).head (names_spine before x []).arguments ≡ applied_all (name_terms before x [])
+spine_all : (before : List Ident) (x : Ident) → applied (names_spine before x []).head (names_spine before x []).arguments
+    ≡ applied_all (name_terms before x [])
 spine_all [] x = refl
 spine_all (y ∷ before) x = refl
 
@@ -70,8 +73,10 @@ pub op_step : (left right : TermTree) (least level : ℕ) (o : Op) (s : Spot) (t
     takes least level o ≡ true → piece (operator o) s ∷ us ≡ ts → read (symbol.term (right_of o)) us ≡ Ok (right, rest) →
     chained left (read (symbol.operators least level) ts) ≡ chained (oper (place left) o left right) (read (symbol.operators least (op_level o)) rest)
 op_step left right least level o s ts us rest e f g =
-    subst (λ (zs : List Piece). chained left (read (symbol.operators least level) zs) ≡ chained (oper (place left) o left right) (read (symbol.operators least (op_level o)) rest)) f
+    subst (λ (zs : List Piece). chained left (read (symbol.operators least level) zs)
+    ≡ chained (oper (place left) o left right) (read (symbol.operators least (op_level o)) rest)) f
     (ap (chained left) (read_operators least level (piece (operator o) s ∷ us) ∙
-    ap (λ b. by_row (first_row_by b (then (symbol.term (right_of o) ∷ symbol.operators least (op_level o) ∷ []) (λ t more. (o, t) ∷ more))) (Some []) (piece (operator o) s) us) e ∙
+    ap (λ b. by_row (first_row_by b (then (symbol.term (right_of o) ∷ symbol.operators least (op_level o) ∷ []) (λ t more. (o, t) ∷ more))) (Some [])
+    (piece (operator o) s) us) e ∙
     ap (λ (m : Reading TermTree). m >>= (λ t more. read (symbol.operators least (op_level o)) more >>= (λ ops end. Ok ((o, t) ∷ ops, end)))) g) ∙
     chained_one left right o (read (symbol.operators least (op_level o)) rest))

@@ -136,7 +136,8 @@ Within (Err e) size n = Unit {0}
 
 abbrev pub bracket_type : ℕ → Ident → List SyntaxPiece → Reading Binders
 bracket_type at x ts =
-    read symbol.written_levels ts >>= (λ ls rest. operation 0 (name_term x ls ∷ []) rest >>= (λ ty more. seq (symbol.token words.RightBracket ∷ []) more (λ _. unnamed at ty)))
+    read symbol.written_levels ts >>= (λ ls rest. operation 0 (name_term x ls ∷ []) rest
+    >>= (λ ty more. seq (symbol.token words.RightBracket ∷ []) more (λ _. unnamed at ty)))
 
 abbrev pub bracket_end : ℕ → Ident → Option ℕ → List SyntaxPiece → Reading Binders
 bracket_end at x (Some p) ts = Ok (unnamed at (name_term x []), ts)

@@ -1,6 +1,14 @@
 //! The levels of `Type` and `Sort`, which are read as terms first.
 ghost use Rattle.std.specs.Prelude.{◌≡◌, ◌∷◌, [], ◌++◌, IfOk, length, option_map, true};
-ghost use Rattle.lf_syntax.specs.Build.{level_of as level_tree_of, level_atoms_of, plus_level as plus_level_tree, max_level as max_level_tree, imax_level as imax_level_tree, applied_level as applied_level_tree, bare_name};
+ghost use Rattle.lf_syntax.specs.Build.{
+  level_of as level_tree_of,
+  level_atoms_of,
+  plus_level as plus_level_tree,
+  max_level as max_level_tree,
+  imax_level as imax_level_tree,
+  applied_level as applied_level_tree,
+  bare_name,
+};
 ghost use Rattle.lf_syntax.specs.Tree as tree;
 ghost use Rattle.lf_parse_term.specs.Sort.{named_so, name_level_of};
 ghost use Rattle.lf_parse_term.specs.Spine.{settled, list_of, extend};

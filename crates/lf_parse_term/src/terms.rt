@@ -10,7 +10,23 @@ ghost use Rattle.lf_syntax.specs.TermNode.{lbinder_trees, lbinder_tree, rule_tre
 ghost use Rattle.lf_syntax.specs.Tree as tree;
 ghost use Rattle.lf_text.specs.declared.word.Word.TheVariants as words;
 ghost use Rattle.lf_parse_term.specs.Descent.{Told, ToldAs, behind, Shorter, ShorterIfSome, NoLonger, read, reading, seq, maybe};
-ghost use Rattle.lf_parse_term.specs.Spine.{ToldThen, IsAtom, IsItem, after, after_maybe, extended, chained, operation as operation_reading, closed_rows, Within, weight, some_lead, names_end as names_end_reading, named_close as named_close_reading, bracket_name_by};
+ghost use Rattle.lf_parse_term.specs.Spine.{
+  ToldThen,
+  IsAtom,
+  IsItem,
+  after,
+  after_maybe,
+  extended,
+  chained,
+  operation as operation_reading,
+  closed_rows,
+  Within,
+  weight,
+  some_lead,
+  names_end as names_end_reading,
+  named_close as named_close_reading,
+  bracket_name_by,
+};
 ghost use Rattle.lf_parse_term.specs.View.{views};
 
 use crate::build::{
@@ -203,7 +219,8 @@ fn element(alloc: Global, toks: &[Piece]) -> Result<(Option<Element>, &[Piece]),
 #[cycle(term)]
 #[tactic(auto, using(crate::proofs::Lists::behind_tail, crate::proofs::Lists::behind_whole, crate::proofs::Lists::behind_fails, crate::proofs::Forms::lambdas_are), unfolding(crate::specs::Spine::after_maybe))]
 fn fun_term(alloc: Global, at: usize, toks: &[Piece]) -> Result<(Option<Element>, &[Piece]), Halt>
-    ensures told { ToldThen result after_maybe (seq (symbol.lambda_binder ∷ symbol.lambda_binders ∷ symbol.token words.FatArrow ∷ symbol.term 0 ∷ []) (views toks.now)
+    ensures told { ToldThen result after_maybe (seq (symbol.lambda_binder ∷ symbol.lambda_binders ∷ symbol.token words.FatArrow ∷ symbol.term 0 ∷ [])
+        (views toks.now)
         (λ b bs _ t. some_lead (tree.fun_term at (tree.binders_of (b ∷ bs)) t))) }
     ensures shorter { Shorter result toks.now }
 {
@@ -223,7 +240,8 @@ fn forall_term(
     at: usize,
     toks: &[Piece],
 ) -> Result<(Option<Element>, &[Piece]), Halt>
-    ensures told { ToldThen result after_maybe (seq (symbol.lambda_binder ∷ symbol.lambda_binders ∷ symbol.token words.Comma ∷ symbol.term 0 ∷ []) (views toks.now)
+    ensures told { ToldThen result after_maybe (seq (symbol.lambda_binder ∷ symbol.lambda_binders ∷ symbol.token words.Comma ∷ symbol.term 0 ∷ [])
+        (views toks.now)
         (λ b bs _ t. some_lead (tree.forall_term at (tree.binders_of (b ∷ bs)) t))) }
     ensures shorter { Shorter result toks.now }
 {
@@ -239,7 +257,8 @@ fn forall_term(
 #[cycle(term)]
 #[tactic(auto, using(crate::proofs::Lists::behind_tail, crate::proofs::Lists::behind_whole, crate::proofs::Lists::behind_fails), unfolding(crate::specs::Spine::after_maybe))]
 fn let_term(alloc: Global, at: usize, toks: &[Piece]) -> Result<(Option<Element>, &[Piece]), Halt>
-    ensures told { ToldThen result after_maybe (seq (symbol.one_part ∷ symbol.type_option ∷ symbol.token words.Assign ∷ symbol.term 0 ∷ symbol.token words.Semicolon ∷ symbol.term 0 ∷ []) (views toks.now)
+    ensures told { ToldThen result after_maybe (seq
+        (symbol.one_part ∷ symbol.type_option ∷ symbol.token words.Assign ∷ symbol.term 0 ∷ symbol.token words.Semicolon ∷ symbol.term 0 ∷ []) (views toks.now)
         (λ x ty _ v _ t. some_lead (tree.let_term at x (tree.option_of ty) v t))) }
     ensures shorter { Shorter result toks.now }
 {
@@ -281,7 +300,9 @@ fn brace_arrow(
     at: usize,
     toks: &[Piece],
 ) -> Result<(Option<Element>, &[Piece]), Halt>
-    ensures told { ToldThen result after_maybe (seq (symbol.binder_name ∷ symbol.binder_names ∷ symbol.token words.Colon ∷ symbol.term 0 ∷ symbol.token words.RightBrace ∷ symbol.arrow_token ∷ symbol.term 0 ∷ []) (views toks.now)
+    ensures told { ToldThen result after_maybe (seq
+        (symbol.binder_name ∷ symbol.binder_names ∷ symbol.token words.Colon ∷ symbol.term 0 ∷ symbol.token words.RightBrace ∷ symbol.arrow_token
+        ∷ symbol.term 0 ∷ []) (views toks.now)
         (λ x xs _ ty _ _ t. some_lead (tree.arrow at (tree.binders at ImplicitKind (x ∷ xs) ty) t))) }
     ensures shorter { Shorter result toks.now }
 {

@@ -7,7 +7,8 @@ use Rattle.lf_print.specs.Printed.{printed, applied, negated}
 use Rattle.lf_print.specs.Forms.{ApplicationForm, negation_form, plain_form, form_of, form_text}
 
 module _ (fs ls : List Path) (p : ℕ) (xs : List Path) where
-  constant_form : (b : Bool) (f a : Term) → negated p b (printed fs ls 40 xs a) (applied p (printed fs ls 1023 xs f) (printed fs ls 1024 xs a)) ≡ form_text fs ls p xs f a (cond b negation_form plain_form)
+  constant_form : (b : Bool) (f a : Term) → negated p b (printed fs ls 40 xs a) (applied p (printed fs ls 1023 xs f) (printed fs ls 1024 xs a))
+      ≡ form_text fs ls p xs f a (cond b negation_form plain_form)
   constant_form true f a = refl
   constant_form false f a = refl
 

@@ -15,12 +15,14 @@ got (x ∷ xs) (suc i) d h = got xs i d (omega arith)
 
 pub name_at : (ns : List (Bor Path)) (i : ℕ) (d : Bor Path) → i < length ns → Some (get_or ns (length ns - 1 - i) d).now ≡ slice_get (open_names ns) i
 name_at ns i d h =
-    sym (slice_get-map (λ (n : Bor Path). n.now) (reverse ns) i ∙ ap (option_map (λ (n : Bor Path). n.now)) (got (reverse ns) i d (subst (λ l. i < l) (sym (length-reverse ns)) h)
+    sym (slice_get-map (λ (n : Bor Path). n.now) (reverse ns) i
+    ∙ ap (option_map (λ (n : Bor Path). n.now)) (got (reverse ns) i d (subst (λ l. i < l) (sym (length-reverse ns)) h)
     ∙ ap Some (get_or-reverse ns i d h)))
 
 pub name_past : (ns : List (Bor Path)) (i : ℕ) → length ns ≤ i → None ≡ slice_get (open_names ns) i
 name_past ns i h =
-    sym (slice_get-map (λ (n : Bor Path). n.now) (reverse ns) i ∙ ap (option_map (λ (n : Bor Path). n.now)) (slice_get_past (reverse ns) i (subst (λ l. l ≤ i) (sym (length-reverse ns)) h)))
+    sym (slice_get-map (λ (n : Bor Path). n.now) (reverse ns) i
+    ∙ ap (option_map (λ (n : Bor Path). n.now)) (slice_get_past (reverse ns) i (subst (λ l. l ≤ i) (sym (length-reverse ns)) h)))
 
 pub name_opened : (ns : List (Bor Path)) (n : Bor Path) → open_names (ns ++ n ∷ []) ≡ n.now ∷ open_names ns
 name_opened ns n = ap (map (λ (m : Bor Path). m.now)) (reverse-append ns (n ∷ []))

@@ -17,6 +17,7 @@ form_of (app (app (const c ms) A) a) = between_form (relation_of c) a
 form_of _ = plain_form
 
 abbrev pub form_text : List Path → List Path → ℕ → List Path → Term → Term → ApplicationForm → List ℕ
-form_text fs ls p xs f a (between_form o x) = infixed p o (λ q. printed fs ls q xs x) (λ q. printed fs ls q xs a) (applied p (printed fs ls 1023 xs f) (printed fs ls 1024 xs a))
+form_text fs ls p xs f a (between_form o x) = infixed p o (λ q. printed fs ls q xs x) (λ q. printed fs ls q xs a)
+    (applied p (printed fs ls 1023 xs f) (printed fs ls 1024 xs a))
 form_text fs ls p xs f a negation_form = negated p true (printed fs ls 40 xs a) (applied p (printed fs ls 1023 xs f) (printed fs ls 1024 xs a))
 form_text fs ls p xs f a plain_form = applied p (printed fs ls 1023 xs f) (printed fs ls 1024 xs a)

@@ -3,7 +3,44 @@ use Rattle.std.specs.Prelude.{ℕ, List, codes}
 use Rattle.std.specs.Str.{encode_utf8_all}
 use Prim.Native.String.{String}
 use Rattle.lf_print.specs.declared.mark.Mark.{Mark}
-use Rattle.lf_print.specs.declared.mark.Mark.TheVariants.{OpenParen, CloseParen, OpenBrace, CloseBrace, OpenBracket, CloseBracket, Space, Dot, Hole, Colon, Comma, Arrow, ForAll, Fun, Maps, LetIn, Assign, Then, Prop, TypeZero, TypeOf, SortOf, Plus, Max, Imax, Not, Iff, Or, And, Eq, Ne, Sub, Mul, Div, Mod, Cut}
+use Rattle.lf_print.specs.declared.mark.Mark.TheVariants.{
+  OpenParen,
+  CloseParen,
+  OpenBrace,
+  CloseBrace,
+  OpenBracket,
+  CloseBracket,
+  Space,
+  Dot,
+  Hole,
+  Colon,
+  Comma,
+  Arrow,
+  ForAll,
+  Fun,
+  Maps,
+  LetIn,
+  Assign,
+  Then,
+  Prop,
+  TypeZero,
+  TypeOf,
+  SortOf,
+  Plus,
+  Max,
+  Imax,
+  Not,
+  Iff,
+  Or,
+  And,
+  Eq,
+  Ne,
+  Sub,
+  Mul,
+  Div,
+  Mod,
+  Cut,
+}
 
 -- A text as its bytes.
 abbrev pub text : String → List ℕ

@@ -1,13 +1,88 @@
 -- Terms as text: all arguments, without `@` and levels; in parentheses where a form's level is below the one that its place asks for.
 -- A constant that is an operator is printed so where it has exactly its number of arguments. This project's own.
-use Rattle.std.specs.Prelude.{ℕ, zero, suc, ◌+◌, ◌-◌, ◌==◌, ◌||◌, ◌&&◌, not, nat_lt, nat_le, Bool, true, false, if◌then◌else◌, List, [], ◌∷◌, ◌++◌, slice_get, Option, Some, None, flat_map, decimal}
-use Rattle.lf_core.specs.Term.{Path, Universe, level_zero, level_succ, level_max, level_imax, level_param, level_meta, Term, bound, free, meta, sort, const, app, lam, pi, letin, lit, proj}
+use Rattle.std.specs.Prelude.{
+  ℕ,
+  zero,
+  suc,
+  ◌+◌,
+  ◌-◌,
+  ◌==◌,
+  ◌||◌,
+  ◌&&◌,
+  not,
+  nat_lt,
+  nat_le,
+  Bool,
+  true,
+  false,
+  if◌then◌else◌,
+  List,
+  [],
+  ◌∷◌,
+  ◌++◌,
+  slice_get,
+  Option,
+  Some,
+  None,
+  flat_map,
+  decimal,
+}
+use Rattle.lf_core.specs.Term.{
+  Path,
+  Universe,
+  level_zero,
+  level_succ,
+  level_max,
+  level_imax,
+  level_param,
+  level_meta,
+  Term,
+  bound,
+  free,
+  meta,
+  sort,
+  const,
+  app,
+  lam,
+  pi,
+  letin,
+  lit,
+  proj,
+}
 use Rattle.lf_name.specs.declared.binder.BinderKind.{BinderKind}
 use Rattle.lf_name.specs.declared.binder.BinderKind.TheVariants.{Explicit, Implicit, Inst}
 use Rattle.lf_print.specs.Mark.{mark_text}
 use Rattle.lf_print.specs.Operators.{operation_of, relation_of, is_negation}
 use Rattle.lf_print.specs.declared.mark.Mark.{Mark}
-use Rattle.lf_print.specs.declared.mark.Mark.TheVariants.{OpenParen, CloseParen, OpenBrace, CloseBrace, OpenBracket, CloseBracket, Space, Dot, Hole, Colon, Comma, Arrow, ForAll, Fun, Maps, LetIn, Assign, Then, Prop, TypeZero, TypeOf, SortOf, Plus, Max, Imax, Not, Cut}
+use Rattle.lf_print.specs.declared.mark.Mark.TheVariants.{
+  OpenParen,
+  CloseParen,
+  OpenBrace,
+  CloseBrace,
+  OpenBracket,
+  CloseBracket,
+  Space,
+  Dot,
+  Hole,
+  Colon,
+  Comma,
+  Arrow,
+  ForAll,
+  Fun,
+  Maps,
+  LetIn,
+  Assign,
+  Then,
+  Prop,
+  TypeZero,
+  TypeOf,
+  SortOf,
+  Plus,
+  Max,
+  Imax,
+  Not,
+  Cut,
+}
 use Rattle.lf_print.specs.declared.operator.Infix.{Infix}
 
 abbrev pub when : Bool → Mark → List ℕ
@@ -34,7 +109,8 @@ name_text None = mark_text Hole
 
 -- A level with n more, that is a name or isn't.
 abbrev pub sum_text : Bool → ℕ → Bool → List ℕ → List ℕ
-sum_text part n atom t = if n == 0 then in_parentheses (not atom && part) t else in_parentheses part (in_parentheses (not atom) t ++ (mark_text Plus ++ decimal n))
+sum_text part n atom t = if n == 0 then in_parentheses (not atom && part) t else in_parentheses part
+    (in_parentheses (not atom) t ++ (mark_text Plus ++ decimal n))
 
 -- The level under n successors.
 abbrev pub level_text : List Path → Bool → ℕ → Universe → List ℕ
@@ -108,17 +184,22 @@ printed fs ls p xs (lit n) = decimal n
 printed fs ls p xs (proj s i t) = printed fs ls 1024 xs t ++ (mark_text Dot ++ decimal (i + 1))
 printed fs ls p xs (app (const c ms) a) = negated p (is_negation c) (printed fs ls 40 xs a) (applied p (path_text c) (printed fs ls 1024 xs a))
 printed fs ls p xs (app (app (const c ms) a) b) =
-    infixed p (operation_of c) (λ q. printed fs ls q xs a) (λ q. printed fs ls q xs b) (applied p (printed fs ls 1023 xs (app (const c ms) a)) (printed fs ls 1024 xs b))
+    infixed p (operation_of c) (λ q. printed fs ls q xs a) (λ q. printed fs ls q xs b)
+    (applied p (printed fs ls 1023 xs (app (const c ms) a)) (printed fs ls 1024 xs b))
 printed fs ls p xs (app (app (app (const c ms) A) a) b) =
-    infixed p (relation_of c) (λ q. printed fs ls q xs a) (λ q. printed fs ls q xs b) (applied p (printed fs ls 1023 xs (app (app (const c ms) A) a)) (printed fs ls 1024 xs b))
+    infixed p (relation_of c) (λ q. printed fs ls q xs a) (λ q. printed fs ls q xs b)
+    (applied p (printed fs ls 1023 xs (app (app (const c ms) A) a)) (printed fs ls 1024 xs b))
 printed fs ls p xs (app f a) = applied p (printed fs ls 1023 xs f) (printed fs ls 1024 xs a)
-printed fs ls p xs (lam x A b) = in_parentheses (nat_lt 25 p) (mark_text Fun ++ (binder_text x.kind x.name (printed fs ls 0 xs A) ++ (mark_text Maps ++ printed fs ls 0 (x.name ∷ xs) b)))
+printed fs ls p xs (lam x A b) = in_parentheses (nat_lt 25 p)
+    (mark_text Fun ++ (binder_text x.kind x.name (printed fs ls 0 xs A) ++ (mark_text Maps ++ printed fs ls 0 (x.name ∷ xs) b)))
 printed fs ls p xs (pi x A B) =
     if is_explicit x.kind && not (is_used 0 B)
     then in_parentheses (nat_lt 25 p) (printed fs ls 26 xs A ++ (mark_text Arrow ++ printed fs ls 25 (x.name ∷ xs) B))
-    else in_parentheses (nat_lt 25 p) (mark_text ForAll ++ (binder_text x.kind x.name (printed fs ls 0 xs A) ++ (mark_text Comma ++ printed fs ls 0 (x.name ∷ xs) B)))
+    else in_parentheses (nat_lt 25 p) (mark_text ForAll
+    ++ (binder_text x.kind x.name (printed fs ls 0 xs A) ++ (mark_text Comma ++ printed fs ls 0 (x.name ∷ xs) B)))
 printed fs ls p xs (letin x A v b) =
-    in_parentheses (nat_lt 25 p) (mark_text LetIn ++ (path_text x.name ++ (mark_text Colon ++ (printed fs ls 0 xs A ++ (mark_text Assign ++ (printed fs ls 0 xs v
+    in_parentheses (nat_lt 25 p) (mark_text LetIn ++
+    (path_text x.name ++ (mark_text Colon ++ (printed fs ls 0 xs A ++ (mark_text Assign ++ (printed fs ls 0 xs v
     ++ (mark_text Then ++ printed fs ls 0 (x.name ∷ xs) b)))))))
 
 -- ---- The limit, in code points

@@ -35,7 +35,9 @@ pub fn blank(alloc: Global) -> Page
 impl Page {
     /// Writes a byte, or that the text goes on where it is full, and then it isn't to be written to any more.
     fn put(&mut self, byte: u8) -> Result<bool, NoMemory>
-        ensures { IfOk result (λ more. (rest : List ℕ) → self.old.bytes.items ++ cut self.old.left (byte ∷ rest) ≡ (if more then self.new.bytes.items ++ cut self.new.left rest else self.new.bytes.items)) }
+        ensures { IfOk result (λ more. (rest : List ℕ)
+            → self.old.bytes.items ++ cut self.old.left (byte ∷ rest)
+            ≡ (if more then self.new.bytes.items ++ cut self.new.left rest else self.new.bytes.items)) }
     {
         if leads(byte) {
             if self.left == 0 {
@@ -50,7 +52,9 @@ impl Page {
 
     /// Writes a text, and tells whether it found room.
     pub fn write(&mut self, text: &[u8]) -> Result<bool, NoMemory>
-        ensures { IfOk result (λ more. (rest : List ℕ) → self.old.bytes.items ++ cut self.old.left (text.now ++ rest) ≡ (if more then self.new.bytes.items ++ cut self.new.left rest else self.new.bytes.items)) }
+        ensures { IfOk result (λ more. (rest : List ℕ)
+            → self.old.bytes.items ++ cut self.old.left (text.now ++ rest)
+            ≡ (if more then self.new.bytes.items ++ cut self.new.left rest else self.new.bytes.items)) }
     {
         match text {
             [] => Ok(true),

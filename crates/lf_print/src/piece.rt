@@ -1,7 +1,23 @@
 ghost use Rattle.std.specs.Prelude.{◌≡◌, if◌then◌else◌, ◌≢◌, ◌+◌, nat_lt, slice_get, flat_map, decimal, ◌&&◌, not, true, false, ◌++◌, ◌∷◌, [], ℕ, List, IfOk};
 ghost use Rattle.std.specs.Option.{option_copied};
 ghost use Rattle.lf_core.specs.Term.{Path, Term, app, lam, pi, letin, level_succ};
-ghost use Rattle.lf_print.specs.Printed.{printed, is_used, is_explicit, in_parentheses, binder_text, applied, infixed as infixed_text, sum_text, name_text, path_text, behind_dot, level_text, sort_text, opening as opening_of, closing as closing_of};
+ghost use Rattle.lf_print.specs.Printed.{
+  printed,
+  is_used,
+  is_explicit,
+  in_parentheses,
+  binder_text,
+  applied,
+  infixed as infixed_text,
+  sum_text,
+  name_text,
+  path_text,
+  behind_dot,
+  level_text,
+  sort_text,
+  opening as opening_of,
+  closing as closing_of,
+};
 ghost use Rattle.lf_print.specs.Mark.{mark_text};
 ghost use Rattle.lf_print.specs.Pieces.{todo};
 ghost use Rattle.lf_print.specs.declared.mark.Mark.TheVariants.{Not, Hole, Arrow, ForAll, Comma, Space, Dot};
@@ -92,7 +108,8 @@ fn lambda<'a>(
     body: &'a Expr,
     place: u32,
 ) -> Result<Vec<Piece<'a>>, NoMemory>
-    ensures { IfOk result (λ ps. (fs ls xs : List Path) (rest : List _) → todo fs ls xs (ps.items ++ rest) ≡ printed fs ls place xs (lam x.now domain.now body.now) ++ todo fs ls xs rest) }
+    ensures { IfOk result (λ ps. (fs ls xs : List Path) (rest : List _)
+        → todo fs ls xs (ps.items ++ rest) ≡ printed fs ls place xs (lam x.now domain.now body.now) ++ todo fs ls xs rest) }
 {
     let wrapped = 25 < place;
     let pieces = vec![in alloc;
@@ -131,7 +148,8 @@ fn product<'a>(
     body: &'a Expr,
     place: u32,
 ) -> Result<Vec<Piece<'a>>, NoMemory>
-    ensures { IfOk result (λ ps. (fs ls xs : List Path) (rest : List _) → todo fs ls xs (ps.items ++ rest) ≡ printed fs ls place xs (pi x.now domain.now body.now) ++ todo fs ls xs rest) }
+    ensures { IfOk result (λ ps. (fs ls xs : List Path) (rest : List _)
+        → todo fs ls xs (ps.items ++ rest) ≡ printed fs ls place xs (pi x.now domain.now body.now) ++ todo fs ls xs rest) }
 {
     if is_arrow(x, body) {
         arrow(alloc, x, domain, body, place)
@@ -148,7 +166,9 @@ fn arrow<'a>(
     body: &'a Expr,
     place: u32,
 ) -> Result<Vec<Piece<'a>>, NoMemory>
-    ensures { IfOk result (λ ps. (fs ls xs : List Path) (rest : List _) → todo fs ls xs (ps.items ++ rest) ≡ in_parentheses (nat_lt 25 place) (printed fs ls 26 xs domain.now ++ (mark_text Arrow ++ printed fs ls 25 (x.now.name ∷ xs) body.now)) ++ todo fs ls xs rest) }
+    ensures { IfOk result (λ ps. (fs ls xs : List Path) (rest : List _)
+        → todo fs ls xs (ps.items ++ rest) ≡ in_parentheses (nat_lt 25 place)
+        (printed fs ls 26 xs domain.now ++ (mark_text Arrow ++ printed fs ls 25 (x.now.name ∷ xs) body.now)) ++ todo fs ls xs rest) }
 {
     let wrapped = 25 < place;
     let pieces = vec![in alloc;
@@ -171,7 +191,10 @@ fn for_all<'a>(
     body: &'a Expr,
     place: u32,
 ) -> Result<Vec<Piece<'a>>, NoMemory>
-    ensures { IfOk result (λ ps. (fs ls xs : List Path) (rest : List _) → todo fs ls xs (ps.items ++ rest) ≡ in_parentheses (nat_lt 25 place) (mark_text ForAll ++ (binder_text x.now.kind x.now.name (printed fs ls 0 xs domain.now) ++ (mark_text Comma ++ printed fs ls 0 (x.now.name ∷ xs) body.now))) ++ todo fs ls xs rest) }
+    ensures { IfOk result (λ ps. (fs ls xs : List Path) (rest : List _)
+        → todo fs ls xs (ps.items ++ rest) ≡ in_parentheses (nat_lt 25 place)
+        (mark_text ForAll ++ (binder_text x.now.kind x.now.name (printed fs ls 0 xs domain.now)
+        ++ (mark_text Comma ++ printed fs ls 0 (x.now.name ∷ xs) body.now))) ++ todo fs ls xs rest) }
 {
     let wrapped = 25 < place;
     let pieces = vec![in alloc;
@@ -200,7 +223,8 @@ fn definition<'a>(
     body: &'a Expr,
     place: u32,
 ) -> Result<Vec<Piece<'a>>, NoMemory>
-    ensures { IfOk result (λ ps. (fs ls xs : List Path) (rest : List _) → todo fs ls xs (ps.items ++ rest) ≡ printed fs ls place xs (letin x.now domain.now value.now body.now) ++ todo fs ls xs rest) }
+    ensures { IfOk result (λ ps. (fs ls xs : List Path) (rest : List _)
+        → todo fs ls xs (ps.items ++ rest) ≡ printed fs ls place xs (letin x.now domain.now value.now body.now) ++ todo fs ls xs rest) }
 {
     let wrapped = 25 < place;
     let pieces = vec![in alloc;
@@ -227,7 +251,8 @@ fn plain<'a>(
     a: &'a Expr,
     place: u32,
 ) -> Result<Vec<Piece<'a>>, NoMemory>
-    ensures { IfOk result (λ ps. (fs ls xs : List Path) (rest : List _) → todo fs ls xs (ps.items ++ rest) ≡ applied place (printed fs ls 1023 xs f.now) (printed fs ls 1024 xs a.now) ++ todo fs ls xs rest) }
+    ensures { IfOk result (λ ps. (fs ls xs : List Path) (rest : List _)
+        → todo fs ls xs (ps.items ++ rest) ≡ applied place (printed fs ls 1023 xs f.now) (printed fs ls 1024 xs a.now) ++ todo fs ls xs rest) }
 {
     let wrapped = 1023 < place;
     let pieces = vec![in alloc;
@@ -248,7 +273,9 @@ fn between<'a>(
     right: &'a Expr,
     place: u32,
 ) -> Result<Vec<Piece<'a>>, NoMemory>
-    ensures { IfOk result (λ ps. (fs ls xs : List Path) (rest : List _) → todo fs ls xs (ps.items ++ rest) ≡ in_parentheses (nat_lt notation.level place) (printed fs ls notation.left xs left.now ++ (mark_text notation.mark ++ printed fs ls notation.right xs right.now)) ++ todo fs ls xs rest) }
+    ensures { IfOk result (λ ps. (fs ls xs : List Path) (rest : List _)
+        → todo fs ls xs (ps.items ++ rest) ≡ in_parentheses (nat_lt notation.level place)
+        (printed fs ls notation.left xs left.now ++ (mark_text notation.mark ++ printed fs ls notation.right xs right.now)) ++ todo fs ls xs rest) }
 {
     let wrapped = notation.level < place;
     let pieces = vec![in alloc;
@@ -263,7 +290,8 @@ fn between<'a>(
 
 /// The pieces of a negation.
 fn negated<'a>(alloc: Global, a: &'a Expr, place: u32) -> Result<Vec<Piece<'a>>, NoMemory>
-    ensures { IfOk result (λ ps. (fs ls xs : List Path) (rest : List _) → todo fs ls xs (ps.items ++ rest) ≡ in_parentheses (nat_lt 40 place) (mark_text Not ++ printed fs ls 40 xs a.now) ++ todo fs ls xs rest) }
+    ensures { IfOk result (λ ps. (fs ls xs : List Path) (rest : List _)
+        → todo fs ls xs (ps.items ++ rest) ≡ in_parentheses (nat_lt 40 place) (mark_text Not ++ printed fs ls 40 xs a.now) ++ todo fs ls xs rest) }
 {
     let wrapped = 40 < place;
     let pieces = vec![in alloc;
@@ -284,7 +312,9 @@ fn infixed<'a>(
     right: &'a Expr,
     place: u32,
 ) -> Result<Vec<Piece<'a>>, NoMemory>
-    ensures { IfOk result (λ ps. (fs ls xs : List Path) (rest : List _) → todo fs ls xs (ps.items ++ rest) ≡ infixed_text place notation (λ q. printed fs ls q xs left.now) (λ q. printed fs ls q xs right.now) (applied place (printed fs ls 1023 xs f.now) (printed fs ls 1024 xs right.now)) ++ todo fs ls xs rest) }
+    ensures { IfOk result (λ ps. (fs ls xs : List Path) (rest : List _)
+        → todo fs ls xs (ps.items ++ rest) ≡ infixed_text place notation (λ q. printed fs ls q xs left.now) (λ q. printed fs ls q xs right.now)
+        (applied place (printed fs ls 1023 xs f.now) (printed fs ls 1024 xs right.now)) ++ todo fs ls xs rest) }
 {
     match notation {
         None => plain(alloc, f, right, place),
@@ -381,7 +411,8 @@ fn formed<'a>(
     a: &'a Expr,
     place: u32,
 ) -> Result<Vec<Piece<'a>>, NoMemory>
-    ensures { IfOk result (λ ps. (fs ls xs : List Path) (rest : List _) → todo fs ls xs (ps.items ++ rest) ≡ form_text fs ls place xs f.now a.now (told form.entry) ++ todo fs ls xs rest) }
+    ensures { IfOk result (λ ps. (fs ls xs : List Path) (rest : List _)
+        → todo fs ls xs (ps.items ++ rest) ≡ form_text fs ls place xs f.now a.now (told form.entry) ++ todo fs ls xs rest) }
 {
     match form {
         Form::Between(notation, x) => infixed(alloc, notation, f, x, a, place),
@@ -403,7 +434,8 @@ fn application<'a>(
     a: &'a Expr,
     place: u32,
 ) -> Result<Vec<Piece<'a>>, NoMemory>
-    ensures { IfOk result (λ ps. (fs ls xs : List Path) (rest : List _) → todo fs ls xs (ps.items ++ rest) ≡ form_text fs ls place xs f.now a.now (form_of f.now) ++ todo fs ls xs rest) }
+    ensures { IfOk result (λ ps. (fs ls xs : List Path) (rest : List _)
+        → todo fs ls xs (ps.items ++ rest) ≡ form_text fs ls place xs f.now a.now (form_of f.now) ++ todo fs ls xs rest) }
 {
     formed(alloc, form_behind(f), f, a, place)
 }
@@ -431,7 +463,8 @@ fn sort_pieces<'a>(alloc: Global, level: &'a Level) -> Result<Vec<Piece<'a>>, No
 
 /// The pieces of the sort above this level.
 fn type_pieces<'a>(alloc: Global, level: &'a Level) -> Result<Vec<Piece<'a>>, NoMemory>
-    ensures { IfOk result (λ ps. (fs ls xs : List Path) (rest : List _) → todo fs ls xs (ps.items ++ rest) ≡ sort_text ls (level_succ level.now) ++ todo fs ls xs rest) }
+    ensures { IfOk result (λ ps. (fs ls xs : List Path) (rest : List _)
+        → todo fs ls xs (ps.items ++ rest) ≡ sort_text ls (level_succ level.now) ++ todo fs ls xs rest) }
 {
     match level.node() {
         LevelNode::Zero => one(alloc, Piece::Mark(Mark::TypeZero)),
@@ -445,7 +478,8 @@ fn type_pieces<'a>(alloc: Global, level: &'a Level) -> Result<Vec<Piece<'a>>, No
 
 /// A mark before a level.
 fn of_level<'a>(alloc: Global, mark: Mark, level: &'a Level) -> Result<Vec<Piece<'a>>, NoMemory>
-    ensures { IfOk result (λ ps. (fs ls xs : List Path) (rest : List _) → todo fs ls xs (ps.items ++ rest) ≡ (mark_text mark ++ level_text ls true 0 level.now) ++ todo fs ls xs rest) }
+    ensures { IfOk result (λ ps. (fs ls xs : List Path) (rest : List _)
+        → todo fs ls xs (ps.items ++ rest) ≡ (mark_text mark ++ level_text ls true 0 level.now) ++ todo fs ls xs rest) }
 {
     let pieces = vec![in alloc; Piece::Mark(mark), Piece::Level(level, true, 0)]?;
     Ok(pieces)
@@ -453,7 +487,8 @@ fn of_level<'a>(alloc: Global, mark: Mark, level: &'a Level) -> Result<Vec<Piece
 
 /// The pieces of a parameter with n more.
 fn parameter<'a>(alloc: Global, k: u32, part: bool, more: u128) -> Result<Vec<Piece<'a>>, NoMemory>
-    ensures { IfOk result (λ ps. (fs ls xs : List Path) (rest : List _) → todo fs ls xs (ps.items ++ rest) ≡ sum_text part more true (name_text (slice_get ls k)) ++ todo fs ls xs rest) }
+    ensures { IfOk result (λ ps. (fs ls xs : List Path) (rest : List _)
+        → todo fs ls xs (ps.items ++ rest) ≡ sum_text part more true (name_text (slice_get ls k)) ++ todo fs ls xs rest) }
 {
     if more == 0 {
         return one(alloc, Piece::Param(k));
@@ -470,7 +505,8 @@ fn parameter<'a>(alloc: Global, k: u32, part: bool, more: u128) -> Result<Vec<Pi
 
 /// The pieces of a metavariable with n more.
 fn unknown<'a>(alloc: Global, part: bool, more: u128) -> Result<Vec<Piece<'a>>, NoMemory>
-    ensures { IfOk result (λ ps. (fs ls xs : List Path) (rest : List _) → todo fs ls xs (ps.items ++ rest) ≡ sum_text part more true (mark_text Hole) ++ todo fs ls xs rest) }
+    ensures { IfOk result (λ ps. (fs ls xs : List Path) (rest : List _)
+        → todo fs ls xs (ps.items ++ rest) ≡ sum_text part more true (mark_text Hole) ++ todo fs ls xs rest) }
 {
     if more == 0 {
         return one(alloc, Piece::Mark(Mark::Hole));
@@ -494,7 +530,9 @@ fn greater<'a>(
     part: bool,
     more: u128,
 ) -> Result<Vec<Piece<'a>>, NoMemory>
-    ensures { IfOk result (λ ps. (fs ls xs : List Path) (rest : List _) → todo fs ls xs (ps.items ++ rest) ≡ sum_text part more false (mark_text mark ++ (level_text ls true 0 l.now ++ (mark_text Space ++ level_text ls true 0 m.now))) ++ todo fs ls xs rest) }
+    ensures { IfOk result (λ ps. (fs ls xs : List Path) (rest : List _)
+        → todo fs ls xs (ps.items ++ rest) ≡ sum_text part more false
+        (mark_text mark ++ (level_text ls true 0 l.now ++ (mark_text Space ++ level_text ls true 0 m.now))) ++ todo fs ls xs rest) }
 {
     if more == 0 {
         let pieces = vec![in alloc;
@@ -530,7 +568,8 @@ pub fn level_pieces<'a>(
     part: bool,
     more: u128,
 ) -> Result<Vec<Piece<'a>>, NoMemory>
-    ensures { IfOk result (λ ps. (fs ls xs : List Path) (rest : List _) → todo fs ls xs (ps.items ++ rest) ≡ level_text ls part more level.now ++ todo fs ls xs rest) }
+    ensures { IfOk result (λ ps. (fs ls xs : List Path) (rest : List _)
+        → todo fs ls xs (ps.items ++ rest) ≡ level_text ls part more level.now ++ todo fs ls xs rest) }
 {
     match level.node() {
         LevelNode::Zero => one(alloc, Piece::Number(more)),
@@ -549,7 +588,8 @@ pub fn level_pieces<'a>(
 
 /// The pieces of a projection.
 fn projection<'a>(alloc: Global, field: u32, term: &'a Expr) -> Result<Vec<Piece<'a>>, NoMemory>
-    ensures { IfOk result (λ ps. (fs ls xs : List Path) (rest : List _) → todo fs ls xs (ps.items ++ rest) ≡ (printed fs ls 1024 xs term.now ++ (mark_text Dot ++ decimal (field + 1))) ++ todo fs ls xs rest) }
+    ensures { IfOk result (λ ps. (fs ls xs : List Path) (rest : List _)
+        → todo fs ls xs (ps.items ++ rest) ≡ (printed fs ls 1024 xs term.now ++ (mark_text Dot ++ decimal (field + 1))) ++ todo fs ls xs rest) }
 {
     let pieces = vec![in alloc;
         Piece::Term(term, 1024),
@@ -566,7 +606,8 @@ pub fn term_pieces<'a>(
     term: &'a Expr,
     place: u32,
 ) -> Result<Vec<Piece<'a>>, NoMemory>
-    ensures { IfOk result (λ ps. (fs ls xs : List Path) (rest : List _) → todo fs ls xs (ps.items ++ rest) ≡ printed fs ls place xs term.now ++ todo fs ls xs rest) }
+    ensures { IfOk result (λ ps. (fs ls xs : List Path) (rest : List _)
+        → todo fs ls xs (ps.items ++ rest) ≡ printed fs ls place xs term.now ++ todo fs ls xs rest) }
 {
     match term.node() {
         ExprNode::Bound(index) => one(alloc, Piece::Bound(*index)),
@@ -598,7 +639,8 @@ pub fn name_pieces<'a>(alloc: Global, parts: &'a [Word]) -> Result<Vec<Piece<'a>
 
 /// The pieces of the parts of a name behind its first.
 pub fn rest_pieces<'a>(alloc: Global, parts: &'a [Word]) -> Result<Vec<Piece<'a>>, NoMemory>
-    ensures { IfOk result (λ ps. (fs ls xs : List Path) (rest : List _) → todo fs ls xs (ps.items ++ rest) ≡ flat_map behind_dot parts.now ++ todo fs ls xs rest) }
+    ensures { IfOk result (λ ps. (fs ls xs : List Path) (rest : List _)
+        → todo fs ls xs (ps.items ++ rest) ≡ flat_map behind_dot parts.now ++ todo fs ls xs rest) }
 {
     match parts {
         [] => Ok(Vec::new(alloc)),
@@ -615,7 +657,8 @@ pub fn rest_pieces<'a>(alloc: Global, parts: &'a [Word]) -> Result<Vec<Piece<'a>
 
 /// The pieces of a variable's name, where it has one.
 pub fn found_pieces<'a>(alloc: Global, name: Option<&'a Name>) -> Result<Vec<Piece<'a>>, NoMemory>
-    ensures { IfOk result (λ ps. (fs ls xs : List Path) (rest : List _) → todo fs ls xs (ps.items ++ rest) ≡ name_text (option_copied name.entry) ++ todo fs ls xs rest) }
+    ensures { IfOk result (λ ps. (fs ls xs : List Path) (rest : List _)
+        → todo fs ls xs (ps.items ++ rest) ≡ name_text (option_copied name.entry) ++ todo fs ls xs rest) }
 {
     match name {
         Some(name) => one(alloc, Piece::Words(name.parts())),

@@ -44,7 +44,9 @@ fn spread<'a>(stack: &mut Vec<Piece<'a>>, pieces: Vec<Piece<'a>>) -> Result<bool
 
 /// Writes a number in decimal.
 fn write_number(alloc: Global, page: &mut Page, number: u128) -> Result<bool, NoMemory>
-    ensures { IfOk result (λ more. (rest : List ℕ) → page.old.bytes.items ++ cut page.old.left (decimal number ++ rest) ≡ (if more then page.new.bytes.items ++ cut page.new.left rest else page.new.bytes.items)) }
+    ensures { IfOk result (λ more. (rest : List ℕ)
+        → page.old.bytes.items ++ cut page.old.left (decimal number ++ rest)
+        ≡ (if more then page.new.bytes.items ++ cut page.new.left rest else page.new.bytes.items)) }
 {
     let text = format!(in alloc; "{number}")?;
     page.write(text.as_str().as_bytes())
@@ -77,7 +79,10 @@ fn step<'a>(
     names: &'a [Name],
     levels: &'a [Name],
 ) -> Result<bool, NoMemory>
-    ensures { IfOk result (λ more. page.old.bytes.items ++ cut page.old.left (todo names.now levels.now (open_names binders.old.items) (piece.entry ∷ reverse stack.old.items)) ≡ (if more then page.new.bytes.items ++ cut page.new.left (todo names.now levels.now (open_names binders.new.items) (reverse stack.new.items)) else page.new.bytes.items)) }
+    ensures { IfOk result (λ more. page.old.bytes.items
+        ++ cut page.old.left (todo names.now levels.now (open_names binders.old.items) (piece.entry ∷ reverse stack.old.items))
+        ≡ (if more then page.new.bytes.items ++ cut page.new.left (todo names.now levels.now (open_names binders.new.items) (reverse stack.new.items)) else
+        page.new.bytes.items)) }
 {
     match piece {
         Piece::Mark(mark) => page.write(mark.text().as_bytes()),

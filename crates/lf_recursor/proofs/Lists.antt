@@ -32,7 +32,8 @@ passed : (b : Bool) (m n : Path) → b ≡ true → (if b then m else n) ≡ m
 passed true m n h = refl
 passed false m n h = cc
 
-pub level_is : (k n : ℕ) (taken : List Path) → is_among (named (codes "u_" ++ decimal k)) taken ≡ false → numbered_level k n taken ≡ named (codes "u_" ++ decimal k)
+pub level_is : (k n : ℕ) (taken : List Path) → is_among (named (codes "u_" ++ decimal k)) taken ≡ false
+    → numbered_level k n taken ≡ named (codes "u_" ++ decimal k)
 level_is k zero taken h = refl
 level_is k (suc n) taken h = tried (is_among (named (codes "u_" ++ decimal k)) taken) _ _ h
 

@@ -92,7 +92,8 @@ fn push_recursive_calls(
     fields: &[Local],
 ) -> Result<(), NoMemory>
     requires { Shares scheme.now }
-    ensures { OnOk result (all.new.items ≡ all.old.items ++ spec.recursive_calls (family_of scheme.now.family) scheme.now.level (called_of scheme.now.called) i fields.now) }
+    ensures { OnOk result (all.new.items ≡ all.old.items ++ spec.recursive_calls (family_of scheme.now.family) scheme.now.level (called_of scheme.now.called)
+        i fields.now) }
 {
     let alloc = *all.allocator();
     match fields {

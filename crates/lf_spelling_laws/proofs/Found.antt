@@ -11,7 +11,23 @@ use Rattle.lf_syntax.specs.declared.leaf.Ident.{Ident}
 use Rattle.lf_syntax.specs.Predictive.{Takes}
 use Rattle.lf_syntax.specs.Piece.{Class, word, name, number, operator, word_code, spelling_code, Piece}
 use Rattle.lf_syntax.specs.Symbol.{Symbol, Tree}
-use Rattle.lf_syntax.specs.Row.{Row, Prod, on_word, on_name, on_one_part, on_spelling, on_number, on_digit, on_operator, try, first_row, if_true, is_one_part, and_then, begins_as}
+use Rattle.lf_syntax.specs.Row.{
+  Row,
+  Prod,
+  on_word,
+  on_name,
+  on_one_part,
+  on_spelling,
+  on_number,
+  on_digit,
+  on_operator,
+  try,
+  first_row,
+  if_true,
+  is_one_part,
+  and_then,
+  begins_as,
+}
 
 abbrev all_words : List Word
 all_words = words.Axiom ∷ words.Def ∷ words.Theorem ∷ words.Inductive ∷ words.Structure ∷ words.Class ∷ words.Instance ∷ words.Namespace ∷

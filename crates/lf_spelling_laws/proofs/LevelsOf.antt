@@ -9,8 +9,52 @@ use Rattle.lf_name.specs.declared.binder.BinderKind.TheVariants.{Explicit, Impli
 use Rattle.lf_syntax.specs.declared.leaf.Ident.{Ident}
 use Rattle.lf_syntax.specs.declared.leaf.Num.{Num}
 use Rattle.lf_syntax.specs.Piece.{name, Piece}
-use Rattle.lf_syntax.specs.Tree.{LevelTree, level_name, levels_of, TermTree, ident, numeral, hole, sorry_term, prop, type_u, sort_u, paren, app, oper, not_term, fun_term, forall_term, let_term, by_term, arrow, no_term, some_term, TermTrees, end_terms, term_and, terms_of, BindersTree, binders, place}
-use Rattle.lf_syntax.specs.Build.{is_one_part_name, is_named, bare_name, name_level, plus_level, max_level, imax_level, applied_level, level_and_more, level_of, level_atoms_of, sort_spine, sort_or_none}
+use Rattle.lf_syntax.specs.Tree.{
+  LevelTree,
+  level_name,
+  levels_of,
+  TermTree,
+  ident,
+  numeral,
+  hole,
+  sorry_term,
+  prop,
+  type_u,
+  sort_u,
+  paren,
+  app,
+  oper,
+  not_term,
+  fun_term,
+  forall_term,
+  let_term,
+  by_term,
+  arrow,
+  no_term,
+  some_term,
+  TermTrees,
+  end_terms,
+  term_and,
+  terms_of,
+  BindersTree,
+  binders,
+  place,
+}
+use Rattle.lf_syntax.specs.Build.{
+  is_one_part_name,
+  is_named,
+  bare_name,
+  name_level,
+  plus_level,
+  max_level,
+  imax_level,
+  applied_level,
+  level_and_more,
+  level_of,
+  level_atoms_of,
+  sort_spine,
+  sort_or_none,
+}
 use Rattle.lf_syntax.specs.Rows.{plus}
 use Rattle.lf_spelling_laws.specs.Readers.{both, FirstAt, Starts, mark, word_at, sign, any_name, named, if_any}
 use Rattle.lf_spelling_laws.specs.Spells.{bare_levels, level, term, binder_place, terms, binder}
@@ -144,14 +188,16 @@ mutual
   level_says (type_u at l) b ts us h = tt
   level_says (sort_u at l) b ts us h = tt
   level_says (paren at t no_term) b ts us h =
-      in_parentheses (level_of t false) at ts h.0 h.2.0 us h.1 (level_says t false h.0 h.2.0 h.2.1) (subst (λ (z : List Piece). mark words.RightParen z us) (sym h.2.2.1) h.2.2.2)
+      in_parentheses (level_of t false) at ts h.0 h.2.0 us h.1 (level_says t false h.0 h.2.0 h.2.1)
+      (subst (λ (z : List Piece). mark words.RightParen z us) (sym h.2.2.1) h.2.2.2)
   level_says (paren at t (some_term u)) b ts us h = tt
   level_says (app at t more) true ts us h = tt
   level_says (app at t more) false ts us h =
       applied_says at (bare_name t) (level_atoms_of more) ts h.1.0 us (bare_says t at ts h.1.0 h.0 h.1.1) (levels_say more h.1.0 us h.1.2)
   level_says (oper at o l r) true ts us h = tt
   level_says (oper at o l r) false ts us h =
-      plus_level_says at o (level_of l true) r ts h.1.0 h.1.2.0 us (subst (λ (n : ℕ). Starts n ts) (sym h.0) (term_starts l ts h.1.0 h.1.1)) (level_says l true ts h.1.0 h.1.1) h.1.2.1 h.1.2.2
+      plus_level_says at o (level_of l true) r ts h.1.0 h.1.2.0 us (subst (λ (n : ℕ). Starts n ts) (sym h.0) (term_starts l ts h.1.0 h.1.1))
+      (level_says l true ts h.1.0 h.1.1) h.1.2.1 h.1.2.2
   level_says (not_term at t) b ts us h = tt
   level_says (fun_term at bs t) b ts us h = tt
   level_says (forall_term at bs t) b ts us h = tt
@@ -161,7 +207,8 @@ mutual
 
   levels_say : (more : TermTrees) (ts us : List Piece) → terms more ts us → Levels (level_atoms_of more) ts us
   levels_say end_terms ts us h = h
-  levels_say (term_and t more) ts us h = more_levels_say (level_of t true) (level_atoms_of more) ts h.0 us (level_says t true ts h.0 h.1) (levels_say more h.0 us h.2)
+  levels_say (term_and t more) ts us h = more_levels_say (level_of t true) (level_atoms_of more) ts h.0 us (level_says t true ts h.0 h.1)
+      (levels_say more h.0 us h.2)
 
 -- `Type` or `Sort`, and what stands behind it.
 pub sort_says : (w : Word) (at : ℕ) (make : Option LevelTree → TermTree) → ((l : Option LevelTree) (ts us : List Piece) →

@@ -10,11 +10,43 @@ use Rattle.lf_name.specs.declared.binder.BinderKind.TheVariants.{Inst}
 use Rattle.lf_syntax.specs.declared.leaf.Ident.{Ident}
 use Rattle.lf_syntax.specs.Piece.{word, name, number, operator, Piece}
 use Rattle.lf_syntax.specs.Row.{Row, then, on_word, on_one_part, begins_as, is_one_part}
-use Rattle.lf_syntax.specs.Tree.{LevelTree, level_number, level_name, TermTree, ident, hole, type_u, sort_u, paren, not_term, terms_of, option_of, binders, place}
+use Rattle.lf_syntax.specs.Tree.{
+  LevelTree,
+  level_number,
+  level_name,
+  TermTree,
+  ident,
+  hole,
+  type_u,
+  sort_u,
+  paren,
+  not_term,
+  terms_of,
+  option_of,
+  binders,
+  place,
+}
 use Rattle.lf_syntax.specs.Symbol as symbol
 use Rattle.lf_syntax.specs.Symbol.{Symbol, Tree, Spine, GroupEnd, BinderEnd, arrow_to, arguments_to, DefRest, DefBody, by_value, by_alternatives}
 use Rattle.lf_syntax.specs.Build.{with_arguments, applied, chain, is_underscore, underscore_at, name_term, names_spine, group_of, close_of}
-use Rattle.lf_syntax.specs.Rows.{rows, without, operand_rows, term_rows, argument_rows, operator_rows, group_end_rows, name_levels_rows, group_names_rows_by, bracket_name_rows, written_levels_rows, unnamed, binders_at, implicit_binder, defined, decl_of}
+use Rattle.lf_syntax.specs.Rows.{
+  rows,
+  without,
+  operand_rows,
+  term_rows,
+  argument_rows,
+  operator_rows,
+  group_end_rows,
+  name_levels_rows,
+  group_names_rows_by,
+  bracket_name_rows,
+  written_levels_rows,
+  unnamed,
+  binders_at,
+  implicit_binder,
+  defined,
+  decl_of,
+}
 use Rattle.lf_syntax.specs.declared.term.Binders.{Binders}
 use Rattle.lf_syntax.specs.declared.command.Decl.{Decl}
 use Rattle.lf_syntax.specs.Levels.{operand_level, is_arrow, is_add}
@@ -22,10 +54,65 @@ use Rattle.lf_syntax.specs.Tree.{rule}
 use Rattle.lf_syntax.specs.declared.pattern.Pattern.TheVariants.{Constructor}
 use Rattle.lf_spelling_laws.specs.Readers.{FirstAt, mark, word_at, sign, one_part, binder_name, each}
 use Rattle.lf_spelling_laws.specs.Spells as spells
-use Rattle.lf_spelling_laws.specs.Spells.{InParentheses, bare_level, bare_levels, level, written_levels, underscore, term, binder_place, type_of, terms, binder, lambda_binder, lambda_binders, item, block_of, items_behind, one_rule, rules_behind, group, groups, type_option, level_names, helper, ctor, field, pattern, alternative, where_option, command}
+use Rattle.lf_spelling_laws.specs.Spells.{
+  InParentheses,
+  bare_level,
+  bare_levels,
+  level,
+  written_levels,
+  underscore,
+  term,
+  binder_place,
+  type_of,
+  terms,
+  binder,
+  lambda_binder,
+  lambda_binders,
+  item,
+  block_of,
+  items_behind,
+  one_rule,
+  rules_behind,
+  group,
+  groups,
+  type_option,
+  level_names,
+  helper,
+  ctor,
+  field,
+  pattern,
+  alternative,
+  where_option,
+  command,
+}
 use Rattle.lf_spelling_laws.specs.Spells.InParentheses.{bare, parenthesis}
 use Rattle.lf_spelling_laws.proofs.Found.{append_in}
-use Rattle.lf_spelling_laws.proofs.Says.{spine, operators, implicit_end, def_body, binder_end, Says, Sp, SpRows, begins_sp, at_, first_, first_starts, name_of, type_same, each_append, chain_says, applied_says, name_says, levels_say, names_spine_says, leveled_spine_says, group_says, close_says, binder_at}
+use Rattle.lf_spelling_laws.proofs.Says.{
+  spine,
+  operators,
+  implicit_end,
+  def_body,
+  binder_end,
+  Says,
+  Sp,
+  SpRows,
+  begins_sp,
+  at_,
+  first_,
+  first_starts,
+  name_of,
+  type_same,
+  each_append,
+  chain_says,
+  applied_says,
+  name_says,
+  levels_say,
+  names_spine_says,
+  leveled_spine_says,
+  group_says,
+  close_says,
+  binder_at,
+}
 use Rattle.lf_spelling_laws.proofs.LevelsOf.{sort_says, plus_says}
 
 operands_say : SpRows spine operand_rows
@@ -204,16 +291,19 @@ module _ (at : ℕ) (before : List Ident) (x : Ident) where
   argued_say : SpRows Group argued
   argued_say = begins_sp more_terms Group argument_rows (symbol.operators 0 operand_level ∷ symbol.group_end ∷
       []) (λ ts ops e. group_of at (names_spine before x []) ts ops e) arguments_say
-      (λ more start us h ops n1 h1 k n2 h2. λ vs ws xs p b c. group_says at (names_spine before x []) more ops k vs ws start us n1 n2 p (names_spine_says before x ws xs start b c) h h1 h2)
+      (λ more start us h ops n1 h1 k n2 h2. λ vs ws xs p b c.
+      group_says at (names_spine before x []) more ops k vs ws start us n1 n2 p (names_spine_says before x ws xs start b c) h h1 h2)
 
   operated_say : SpRows Group operated
   operated_say = begins_sp operators Group (operator_rows 0 operand_level) (symbol.group_end ∷
       []) (λ ops e. group_of at (names_spine before x []) [] ops e) (operators_say 0 operand_level)
-      (λ ops start us h k n1 h1. λ vs ws xs p b c. group_says at (names_spine before x []) [] ops k vs ws start start us n1 p (names_spine_says before x ws xs start b c) refl h h1)
+      (λ ops start us h k n1 h1. λ vs ws xs p b c.
+      group_says at (names_spine before x []) [] ops k vs ws start start us n1 p (names_spine_says before x ws xs start b c) refl h h1)
 
   closed_say : SpRows Group closed
   closed_say = begins_sp (Says symbol.group_end) Group group_end_rows [] (λ e. group_of at (names_spine before x []) [] [] e) group_end_says
-      (λ k start us h. λ vs ws xs p b c. group_says at (names_spine before x []) [] [] k vs ws start start start us p (names_spine_says before x ws xs start b c) refl refl h)
+      (λ k start us h. λ vs ws xs p b c. group_says at (names_spine before x []) [] [] k vs ws start start start us p
+      (names_spine_says before x ws xs start b c) refl refl h)
 
   group_names_say : (b : Bool) → is_underscore x.name ≡ b → SpRows Group (group_names_rows_by b at before x)
   group_names_say b q =
@@ -288,7 +378,8 @@ module _ (at : ℕ) (x : Ident) where
   operated_bracket_say : SpRows Bound operated_bracket
   operated_bracket_say = begins_sp operators Bound (operator_rows 0 operand_level) (symbol.token words.RightBracket ∷
       []) (λ ops _. unnamed at (chain (name_term x []) ops)) (operators_say 0 operand_level)
-      (λ ops start us g _ n1 h1. λ vs ws p h. unnamed_says at (chain (name_term x []) ops) vs ws us n1 p (chain_says (name_term x []) ops ws start us (name_says x ws start (inl h)) g) h1)
+      (λ ops start us g _ n1 h1. λ vs ws p h. unnamed_says at (chain (name_term x []) ops) vs ws us n1 p
+      (chain_says (name_term x []) ops ws start us (name_says x ws start (inl h)) g) h1)
 
   bracket_name_say : SpRows Bound (bracket_name_rows at x)
   bracket_name_say =

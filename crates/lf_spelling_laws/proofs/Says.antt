@@ -10,12 +10,75 @@ use Rattle.lf_syntax.specs.declared.leaf.Num.{Num}
 use Rattle.lf_syntax.specs.Piece.{Class, word, name, Piece}
 use Rattle.lf_syntax.specs.Row.{Row, begins_as}
 use Rattle.lf_syntax.specs.Predictive.{Takes, join}
-use Rattle.lf_syntax.specs.Tree.{LevelTree, levels_of, TermTree, ident, hole, oper, terms_of, option_of, BindersTree, binders, binders_of, items_of, rules_of, place}
+use Rattle.lf_syntax.specs.Tree.{
+  LevelTree,
+  levels_of,
+  TermTree,
+  ident,
+  hole,
+  oper,
+  terms_of,
+  option_of,
+  BindersTree,
+  binders,
+  binders_of,
+  items_of,
+  rules_of,
+  place,
+}
 use Rattle.lf_syntax.specs.Symbol as symbol
 use Rattle.lf_syntax.specs.Symbol.{Symbol, Tree, Spine, GroupEnd, BinderEnd, arrow_to, arguments_to, DefRest, DefBody, by_value, by_alternatives}
 use Rattle.lf_syntax.specs.Build.{applied, chain, is_underscore, name_term, spine_of, names_spine, group_of, close_of}
-use Rattle.lf_spelling_laws.specs.Readers.{Reader, both, First, FirstAt, Starts, mark, word_at, sign, numeral_token, digit, any_name, one_part, spelled, binder_name, each, each_behind, each_parted, where_block, if_any}
-use Rattle.lf_spelling_laws.specs.Spells.{bare_levels, level, written_levels, underscore, term, binder_place, type_of, terms, binder, lambda_binder, lambda_binders, item, block_of, items_behind, one_rule, rules_behind, group, groups, type_option, level_names, helper, ctor, field, pattern, alternative, where_option, command}
+use Rattle.lf_spelling_laws.specs.Readers.{
+  Reader,
+  both,
+  First,
+  FirstAt,
+  Starts,
+  mark,
+  word_at,
+  sign,
+  numeral_token,
+  digit,
+  any_name,
+  one_part,
+  spelled,
+  binder_name,
+  each,
+  each_behind,
+  each_parted,
+  where_block,
+  if_any,
+}
+use Rattle.lf_spelling_laws.specs.Spells.{
+  bare_levels,
+  level,
+  written_levels,
+  underscore,
+  term,
+  binder_place,
+  type_of,
+  terms,
+  binder,
+  lambda_binder,
+  lambda_binders,
+  item,
+  block_of,
+  items_behind,
+  one_rule,
+  rules_behind,
+  group,
+  groups,
+  type_option,
+  level_names,
+  helper,
+  ctor,
+  field,
+  pattern,
+  alternative,
+  where_option,
+  command,
+}
 use Rattle.lf_spelling_laws.proofs.Found.{InRows, begins_in}
 
 abbrev pub spine : Spine → Reader
@@ -171,7 +234,8 @@ name_says x ts us h = by (is_underscore x.name) refl
 
 pub levels_say : (x : Ident) (ls : List LevelTree) (ts ms us : List Piece) → is_underscore x.name ≡ false → any_name x ts ms →
     written_levels ls ms us → term (name_term x ls) ts us
-levels_say x ls ts ms us e h g = subst (λ (b : Bool). term (elim b as (λ _. TermTree) [ true ↦ hole x.at | false ↦ ident x.at false x ls ]) ts us) (sym e) (refl, (ms, h, g))
+levels_say x ls ts ms us e h g = subst (λ (b : Bool). term (elim b as (λ _. TermTree) [ true ↦ hole x.at | false ↦ ident x.at false x ls ]) ts us) (sym e)
+    (refl, (ms, h, g))
 
 pub spine_says : (more : List TermTree) (t : TermTree) (ts ms us : List Piece) → terms (terms_of more) ts ms → term t ms us → spine (spine_of more t) ts us
 spine_says [] t ts ms us h g = (us, subst (λ (z : List Piece). term t z us) (sym h) g, refl)
@@ -183,19 +247,22 @@ names_say (x ∷ xs) ts us h = (h.0, name_says x ts h.0 h.1, names_say xs h.0 us
 
 pub names_spine_says : (before : List Ident) (x : Ident) (ts ms us : List Piece) → each binder_name before ts ms → binder_name x ms us →
     spine (names_spine before x []) ts us
-names_spine_says before x ts ms us h g = spine_says (map (λ y. name_term y []) before) (name_term x []) ts ms us (names_say before ts ms h) (name_says x ms us g)
+names_spine_says before x ts ms us h g = spine_says (map (λ y. name_term y []) before) (name_term x []) ts ms us (names_say before ts ms h)
+    (name_says x ms us g)
 
 pub leveled_spine_says : (before : List Ident) (x : Ident) (ls : List LevelTree) (ts ms vs us : List Piece) → is_underscore x.name ≡ false →
     each binder_name before ts ms → binder_name x ms vs → written_levels ls vs us →
     spine (names_spine before x ls) ts us
 leveled_spine_says before x ls ts ms vs us e h g k =
-    spine_says (map (λ y. name_term y []) before) (name_term x ls) ts ms us (names_say before ts ms h) (levels_say x ls ms vs us e (no_underscore x ms vs g e) k)
+    spine_says (map (λ y. name_term y []) before) (name_term x ls) ts ms us (names_say before ts ms h)
+    (levels_say x ls ms vs us e (no_underscore x ms vs g e) k)
 
 pub group_says : (at : ℕ) (s : Spine) (more : List TermTree) (ops : List (Op × TermTree)) (e : GroupEnd) (vs ts ms ns os us : List Piece) →
     word_at words.LeftParen at vs ts → spine s ts ms →
     terms (terms_of more) ms ns → operators ops ns os → Says symbol.group_end e os us → spine (group_of at s more ops e) vs us
 group_says at s more ops e vs ts ms ns os us p h g o k =
-    let a : term (applied s.head (s.arguments ++ more)) ts ns = applied_says s.head (s.arguments ++ more) ts h.0 ns h.1 (terms_append s.arguments more h.0 ms ns h.2 g) in
+    let a : term (applied s.head (s.arguments ++ more)) ts ns =
+    applied_says s.head (s.arguments ++ more) ts h.0 ns h.1 (terms_append s.arguments more h.0 ms ns h.2 g) in
     (k.2.0, (ts, p, (os, chain_says (applied s.head (s.arguments ++ more)) ops ts ns os a o, (k.0, type_same e.ty os k.0 k.1, k.2.1))), k.2.2)
 
 pub close_says : (at : ℕ) (before : List Ident) (x : Ident) (ty : TermTree) (e : BinderEnd) (vs ts ms ns os qs us : List Piece) →

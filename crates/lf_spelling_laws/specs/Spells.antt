@@ -6,7 +6,72 @@ use Rattle.lf_text.specs.declared.word.Spelling.TheVariants as spelt
 use Rattle.lf_text.specs.declared.operator.Op.TheVariants.{Arrow, Add}
 use Rattle.lf_syntax.specs.Piece.{Piece}
 use Rattle.lf_syntax.specs.declared.leaf.Ident.{Ident}
-use Rattle.lf_syntax.specs.Tree.{LevelTree, LevelTrees, level_number, level_name, level_plus, level_max, level_imax, no_level, level_and, TermTree, ident, numeral, hole, sorry_term, prop, type_u, sort_u, paren, app, oper, not_term, fun_term, forall_term, let_term, by_term, arrow, TermOption, no_term, some_term, TermTrees, end_terms, term_and, BindersTree, binders, LBinderTree, typed, plain, implicit, LBinderTrees, end_binders, binder_and, ItemTree, block, exact, intro, apply, rfl, assumption_item, rw_item, unfold_item, have_item, induction, cases, injection, sorry_item, ItemTrees, end_items, item_and, RuleTree, rule, RuleTrees, end_rules, rule_and, place}
+use Rattle.lf_syntax.specs.Tree.{
+  LevelTree,
+  LevelTrees,
+  level_number,
+  level_name,
+  level_plus,
+  level_max,
+  level_imax,
+  no_level,
+  level_and,
+  TermTree,
+  ident,
+  numeral,
+  hole,
+  sorry_term,
+  prop,
+  type_u,
+  sort_u,
+  paren,
+  app,
+  oper,
+  not_term,
+  fun_term,
+  forall_term,
+  let_term,
+  by_term,
+  arrow,
+  TermOption,
+  no_term,
+  some_term,
+  TermTrees,
+  end_terms,
+  term_and,
+  BindersTree,
+  binders,
+  LBinderTree,
+  typed,
+  plain,
+  implicit,
+  LBinderTrees,
+  end_binders,
+  binder_and,
+  ItemTree,
+  block,
+  exact,
+  intro,
+  apply,
+  rfl,
+  assumption_item,
+  rw_item,
+  unfold_item,
+  have_item,
+  induction,
+  cases,
+  injection,
+  sorry_item,
+  ItemTrees,
+  end_items,
+  item_and,
+  RuleTree,
+  rule,
+  RuleTrees,
+  end_rules,
+  rule_and,
+  place,
+}
 use Rattle.lf_syntax.specs.declared.term.Binders.{Binders}
 use Rattle.lf_syntax.specs.declared.command.Decl.{Decl}
 use Rattle.lf_syntax.specs.declared.command.Helper.{Helper}
@@ -16,10 +81,48 @@ use Rattle.lf_syntax.specs.declared.pattern.Alternative.{Alternative}
 use Rattle.lf_syntax.specs.declared.pattern.Pattern.{Pattern}
 use Rattle.lf_syntax.specs.declared.pattern.Pattern.TheVariants.{Constructor, Zero, Successor}
 use Rattle.lf_syntax.specs.declared.command.Command.{Command}
-use Rattle.lf_syntax.specs.declared.command.Command.TheVariants.{Axiom, Def, Equations, Theorem, Inductive, Structure, Class, Instance, Namespace, Section, End, OpenNames, Universe, Variable, Check, Reduce, PrintAxioms, Bad}
+use Rattle.lf_syntax.specs.declared.command.Command.TheVariants.{
+  Axiom,
+  Def,
+  Equations,
+  Theorem,
+  Inductive,
+  Structure,
+  Class,
+  Instance,
+  Namespace,
+  Section,
+  End,
+  OpenNames,
+  Universe,
+  Variable,
+  Check,
+  Reduce,
+  PrintAxioms,
+  Bad,
+}
 use Rattle.lf_syntax.specs.Build.{is_underscore}
 use Rattle.lf_syntax.specs.Grammar.{Derives}
-use Rattle.lf_spelling_laws.specs.Readers.{Reader, none, both, Starts, mark, word_at, sign, numeral_token, digit, any_name, one_part, spelled, named, binder_name, each, each_behind, where_block, if_any}
+use Rattle.lf_spelling_laws.specs.Readers.{
+  Reader,
+  none,
+  both,
+  Starts,
+  mark,
+  word_at,
+  sign,
+  numeral_token,
+  digit,
+  any_name,
+  one_part,
+  spelled,
+  named,
+  binder_name,
+  each,
+  each_behind,
+  where_block,
+  if_any,
+}
 
 -- Something, in any number of parentheses.
 pub data InParentheses (p : List Piece → List Piece → Type 0) : List Piece → List Piece → Type 0 where
@@ -53,7 +156,8 @@ binder_place (binders at k xs t) = at
 -- The lone `_`. No text has it as an identifier; where a list of tokens does, it is a hole all the same, and its levels are lost.
 abbrev pub underscore : ℕ → Reader
 underscore at ts us =
-    word_at words.Underscore at ts us ⊎ ((x : Ident) × (ls : List LevelTree) × both (any_name x) (written_levels ls) ts us × (x.at ≡ at) × (is_underscore x.name ≡ true))
+    word_at words.Underscore at ts us ⊎ ((x : Ident) × (ls : List LevelTree) × both (any_name x) (written_levels ls) ts us × (x.at ≡ at)
+    × (is_underscore x.name ≡ true))
 
 abbrev mutual
   pub term : TermTree → List Piece → List Piece → Type 0
@@ -86,8 +190,10 @@ abbrev mutual
 
   -- `(names : type)`, `{names : type}`, `[name : type]` or `[type]`, whose name is `inst`.
   pub binder : BindersTree → List Piece → List Piece → Type 0
-  binder (binders at Explicit xs t) ts us = both (word_at words.LeftParen at) (both (each binder_name xs) (both (mark words.Colon) (both (term t) (mark words.RightParen)))) ts us
-  binder (binders at Implicit xs t) ts us = both (word_at words.LeftBrace at) (both (each binder_name xs) (both (mark words.Colon) (both (term t) (mark words.RightBrace)))) ts us
+  binder (binders at Explicit xs t) ts us = both (word_at words.LeftParen at)
+      (both (each binder_name xs) (both (mark words.Colon) (both (term t) (mark words.RightParen)))) ts us
+  binder (binders at Implicit xs t) ts us = both (word_at words.LeftBrace at)
+      (both (each binder_name xs) (both (mark words.Colon) (both (term t) (mark words.RightBrace)))) ts us
   binder (binders at Inst [] t) ts us = ⊥
   binder (binders at Inst (x ∷ []) t) ts us =
       both (word_at words.LeftBracket at) (both (λ vs ws. both (one_part x) (mark words.Colon) vs ws ⊎ ((x ≡ record {
@@ -116,7 +222,8 @@ abbrev mutual
   item (assumption_item at) ts us = spelled spelt.Assumption at ts us
   item (rw_item at rs) ts us = both (spelled spelt.Rw at) (both (mark words.LeftBracket) (both (rules rs) (mark words.RightBracket))) ts us
   item (unfold_item at x) ts us = both (spelled spelt.Unfold at) (any_name x) ts us
-  item (have_item at x u v) ts us = both (spelled spelt.Have at) (both (one_part x) (both (mark words.Colon) (both (term u) (both (mark words.Assign) (term v))))) ts us
+  item (have_item at x u v) ts us = both (spelled spelt.Have at)
+      (both (one_part x) (both (mark words.Colon) (both (term u) (both (mark words.Assign) (term v))))) ts us
   item (induction at x) ts us = both (spelled spelt.Induction at) (one_part x) ts us
   item (cases at x) ts us = both (spelled spelt.Cases at) (one_part x) ts us
   item (injection at x) ts us = both (spelled spelt.Injection at) (one_part x) ts us
@@ -164,7 +271,8 @@ abbrev pub decl : Decl → Reader
 decl d = both (any_name d.name) (both (level_names d.levels) (both (groups d.binders) (type_option d.ty)))
 
 abbrev pub helper : Helper → Reader
-helper h ts us = (h.at ≡ h.name.at) × both (one_part h.name) (both (groups h.binders) (both (mark words.Colon) (both (term h.ty) (both (mark words.Assign) (term h.value))))) ts us
+helper h ts us = (h.at ≡ h.name.at) × both (one_part h.name)
+    (both (groups h.binders) (both (mark words.Colon) (both (term h.ty) (both (mark words.Assign) (term h.value))))) ts us
 
 abbrev pub ctor : CtorDecl → Reader
 ctor c = both (word_at words.Bar c.at) (both (one_part c.name) (both (groups c.binders) (type_option c.ty)))

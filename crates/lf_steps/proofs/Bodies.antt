@@ -19,7 +19,8 @@ shown_known None h (Value v) s = absurd s
 shown_known None h Opaque s = refl
 shown_known None h (NeedBody p) s = absurd s
 
-shown_in : (c : ConstInfo) (b : Bool) (p : Option ℕ) (o : BodyOf) → Shows o (if b then own_value c p else opaque) → with_height o c.height ≡ (if b then own_value c p else opaque)
+shown_in : (c : ConstInfo) (b : Bool) (p : Option ℕ) (o : BodyOf) → Shows o (if b then own_value c p else opaque)
+    → with_height o c.height ≡ (if b then own_value c p else opaque)
 shown_in c false p (Value v) s = absurd s
 shown_in c false p Opaque s = refl
 shown_in c false p (NeedBody q) s = absurd s

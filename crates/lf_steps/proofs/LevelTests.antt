@@ -37,12 +37,15 @@ or_right false b h = h
 
 pub right_meta : (l m : Universe) → level_has_metavariable m ≡ true → same_universe l m ≡ is_same l m
 unfolding is_same
-right_meta l m h = sym (met (level_has_metavariable l) (level_has_metavariable m) (same_universe l m) _ (or_right (level_has_metavariable l) (level_has_metavariable m) h))
+right_meta l m h = sym (met (level_has_metavariable l) (level_has_metavariable m) (same_universe l m) _
+    (or_right (level_has_metavariable l) (level_has_metavariable m) h))
 
 -- Without one, the limits and then both orders.
-plain : (l m : Universe) → level_has_metavariable l ≡ false → level_has_metavariable m ≡ false → is_same l m ≡ (if is_too_great l m then false else both_orders l m)
+plain : (l m : Universe) → level_has_metavariable l ≡ false → level_has_metavariable m ≡ false
+    → is_same l m ≡ (if is_too_great l m then false else both_orders l m)
 unfolding is_same
-plain l m p q = cond-false (level_has_metavariable l || level_has_metavariable m) (same_universe l m) _ (or_from (level_has_metavariable l) (level_has_metavariable m) p q)
+plain l m p q = cond-false (level_has_metavariable l || level_has_metavariable m) (same_universe l m) _
+    (or_from (level_has_metavariable l) (level_has_metavariable m) p q)
 
 great : (b r : Bool) → b ≡ true → (if b then false else r) ≡ false
 great true r h = refl
@@ -59,10 +62,12 @@ pub too_many : (l m : Universe) → level_has_metavariable l ≡ false → level
 too_many l m p q h = refused l m p q (or_left (nat_lt 8 (length (parameters_of l m))) _ (lt-ltb 8 (length (parameters_of l m)) h))
 
 pub left_deep : (l m : Universe) → level_has_metavariable l ≡ false → level_has_metavariable m ≡ false → 1024 < level_depth l → false ≡ is_same l m
-left_deep l m p q h = refused l m p q (or_right (nat_lt 8 (length (parameters_of l m))) _ (or_left (nat_lt 1024 (level_depth l)) _ (lt-ltb 1024 (level_depth l) h)))
+left_deep l m p q h = refused l m p q (or_right (nat_lt 8 (length (parameters_of l m))) _
+    (or_left (nat_lt 1024 (level_depth l)) _ (lt-ltb 1024 (level_depth l) h)))
 
 pub right_deep : (l m : Universe) → level_has_metavariable l ≡ false → level_has_metavariable m ≡ false → 1024 < level_depth m → false ≡ is_same l m
-right_deep l m p q h = refused l m p q (or_right (nat_lt 8 (length (parameters_of l m))) _ (or_right (nat_lt 1024 (level_depth l)) _ (lt-ltb 1024 (level_depth m) h)))
+right_deep l m p q h = refused l m p q (or_right (nat_lt 8 (length (parameters_of l m))) _
+    (or_right (nat_lt 1024 (level_depth l)) _ (lt-ltb 1024 (level_depth m) h)))
 
 not_above : (a b : ℕ) → b ≤ a → nat_lt a b ≡ false
 not_above a b h = false_from_ne_true (nat_lt a b) (λ e. let l = ltb-true a b e in omega arith)

@@ -6,8 +6,6 @@ use crate::halt::{Halt, Refused};
 use lf_core::Name;
 use std::alloc::Global;
 
-fn discard(_refused: Refused) {}
-
 /// A refusal is `None`, and goes on. What else ends a call ends it here too.
 pub fn attempt<T>(tried: Result<T, Halt>) -> Result<Option<T>, Halt>
     ensures { result ≡ caught_result tried }
@@ -15,7 +13,7 @@ pub fn attempt<T>(tried: Result<T, Halt>) -> Result<Option<T>, Halt>
     match tried {
         Ok(value) => Ok(Some(value)),
         Err(Halt::Refused(refused)) => {
-            discard(refused);
+            drop(refused);
             Ok(None)
         }
         Err(Halt::Out) => Err(Halt::Out),

@@ -10,7 +10,7 @@ ghost use Rattle.lf_steps.specs.Runs as own;
 use crate::halt::{Halt, out};
 use crate::spine::apply;
 use lf_base::Stop;
-use lf_core::{Expr, Level, discard};
+use lf_core::{Expr, Level};
 use lf_subst::{SubstFault, abstract_free, instantiate, level_inst};
 use std::alloc::Global;
 
@@ -47,7 +47,7 @@ pub fn put(units: &mut u64, term: Expr) -> Result<Expr, Halt>
     ensures calm { Calm result }
 {
     if term.depth() > DEEPEST {
-        discard(term);
+        drop(term);
         return Err(out(units));
     }
     Ok(term)
@@ -60,7 +60,7 @@ pub fn paid(units: &mut u64, term: Expr) -> Result<Expr, Halt>
 {
     let nodes = term.node_count();
     if *units < nodes {
-        discard(term);
+        drop(term);
         return Err(out(units));
     }
     *units -= nodes;

@@ -105,7 +105,8 @@ fn by_rule_made(
     fields: &[Expr],
     after: &[Expr],
 ) -> Result<Expr, Halt>
-    ensures value { Runs (run.made (terms.apply (terms.apply (terms.apply (level_instantiate levels.now rule.now) taken.now) fields.now) after.now) units.old) result units.new }
+    ensures value { Runs (run.made (terms.apply (terms.apply (terms.apply (level_instantiate levels.now rule.now) taken.now) fields.now) after.now) units.old)
+        result units.new }
     ensures calm { Calm result }
 {
     let term = rule_at(alloc, units, levels, rule)?;
@@ -126,7 +127,8 @@ fn fire_rule(
     fields: &[Expr],
     rule: Option<&Expr>,
 ) -> Result<Progress, Halt>
-    ensures value { RunsAs values.progress (spec.fire_rule (values.recursor recursor.entry) levels.now (values.split split.entry) own fields.now (option_copied rule.entry) units.old) result units.new }
+    ensures value { RunsAs values.progress (spec.fire_rule (values.recursor recursor.entry) levels.now (values.split split.entry) own fields.now
+        (option_copied rule.entry) units.old) result units.new }
     ensures calm { Calm result }
 {
     match rule {
@@ -149,7 +151,8 @@ fn fire_detail(
     fields: &[Expr],
     detail: &Detail,
 ) -> Result<Progress, Halt>
-    ensures value { RunsAs values.progress (spec.fire_detail (values.recursor recursor.entry) levels.now (values.split split.entry) fields.now detail.now units.old) result units.new }
+    ensures value { RunsAs values.progress (spec.fire_detail (values.recursor recursor.entry) levels.now (values.split split.entry) fields.now detail.now
+        units.old) result units.new }
     ensures calm { Calm result }
 {
     match detail {
@@ -181,7 +184,8 @@ pub fn fire(
     split: Split<'_>,
     major: &Expr,
 ) -> Result<Progress, Halt>
-    ensures value { RunsAs values.progress (spec.fire view.now (values.recursor recursor.entry) levels.now (values.split split.entry) major.now units.old) result units.new }
+    ensures value { RunsAs values.progress (spec.fire view.now (values.recursor recursor.entry) levels.now (values.split split.entry) major.now units.old)
+        result units.new }
     ensures calm { Calm result }
 {
     match head(major).node() {
@@ -226,7 +230,8 @@ fn fieldless_named<'a>(
     recursor: Recursor<'_>,
     name: &'a Name,
 ) -> Result<Option<&'a Name>, Halt>
-    ensures value { RunsAs option_copied (steps.fieldless_seen (values.recursor recursor.entry) name.now (calls.see view.now name.now) units.old) result units.new }
+    ensures value { RunsAs option_copied (steps.fieldless_seen (values.recursor recursor.entry) name.now (calls.see view.now name.now) units.old) result
+        units.new }
     ensures calm { Calm result }
 {
     match see(alloc, view, name)? {

@@ -123,7 +123,8 @@ fn unfold_both(
     d: Definition<'_>,
     e: Definition<'_>,
 ) -> Result<Verdict, Halt>
-    ensures value { RunsAs values.verdict (spec.by_height a.now b.now (Some (values.definition d.entry)) (Some (values.definition e.entry)) units.old) result units.new }
+    ensures value { RunsAs values.verdict (spec.by_height a.now b.now (Some (values.definition d.entry)) (Some (values.definition e.entry)) units.old) result
+        units.new }
     ensures calm { Calm result }
 {
     if d.height < e.height {
@@ -147,7 +148,8 @@ fn by_height(
     left: Option<Definition<'_>>,
     right: Option<Definition<'_>>,
 ) -> Result<Verdict, Halt>
-    ensures value { RunsAs values.verdict (spec.by_height a.now b.now (option_map values.definition left.entry) (option_map values.definition right.entry) units.old) result units.new }
+    ensures value { RunsAs values.verdict (spec.by_height a.now b.now (option_map values.definition left.entry) (option_map values.definition right.entry)
+        units.old) result units.new }
     ensures calm { Calm result }
 {
     match left {

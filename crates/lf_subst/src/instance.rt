@@ -131,7 +131,8 @@ fn is_within(limit: u32, under: u32, arg: &Expr, body: &Expr) -> bool
 #[tactic(auto, using(crate::proofs::Unchanged::instantiate_unchanged))]
 fn spend(left: u64, under: u32, arg: &Expr, body: &Expr) -> Option<u64>
     requires { under + size.depth body.now < 2 ^ 32 }
-    ensures { MatchOption result (left < size.node_count (spec.instantiate_at under body.now arg.now)) (λ rest. rest + size.node_count (spec.instantiate_at under body.now arg.now) ≡ left) }
+    ensures { MatchOption result (left < size.node_count (spec.instantiate_at under body.now arg.now))
+        (λ rest. rest + size.node_count (spec.instantiate_at under body.now arg.now) ≡ left) }
 {
     if body.loose_bound() <= under {
         return left.checked_sub(body.node_count());

@@ -71,7 +71,8 @@ fn is_within(limit: u32, args: &[Level], term: &Expr) -> bool
 // What is left of `left` after the nodes of `level` at these arguments, or `None` where they pass it.
 #[tactic(auto, using(lf_core::proofs::Unchanged::level_unchanged))]
 fn spend_level(left: u64, args: &[Level], level: &Level) -> Option<u64>
-    ensures { MatchOption result (left < size.level_node_count (spec.level_substitute args.now level.now)) (λ rest. rest + size.level_node_count (spec.level_substitute args.now level.now) ≡ left) }
+    ensures { MatchOption result (left < size.level_node_count (spec.level_substitute args.now level.now))
+        (λ rest. rest + size.level_node_count (spec.level_substitute args.now level.now) ≡ left) }
 {
     if !level.has_parameter() {
         return left.checked_sub(level.node_count());
@@ -91,7 +92,8 @@ fn spend_level(left: u64, args: &[Level], level: &Level) -> Option<u64>
 }
 
 fn spend_levels(left: u64, args: &[Level], levels: &[Level]) -> Option<u64>
-    ensures { MatchOption result (left < size.levels_node_count (map (spec.level_substitute args.now) levels.now)) (λ rest. rest + size.levels_node_count (map (spec.level_substitute args.now) levels.now) ≡ left) }
+    ensures { MatchOption result (left < size.levels_node_count (map (spec.level_substitute args.now) levels.now))
+        (λ rest. rest + size.levels_node_count (map (spec.level_substitute args.now) levels.now) ≡ left) }
 {
     match levels {
         [] => Some(left),
@@ -102,7 +104,8 @@ fn spend_levels(left: u64, args: &[Level], levels: &[Level]) -> Option<u64>
 // What is left of `left` after the nodes of `term` at these levels, or `None` where they pass it.
 #[tactic(auto, using(crate::proofs::Unchanged::term_unchanged))]
 fn spend(left: u64, args: &[Level], term: &Expr) -> Option<u64>
-    ensures { MatchOption result (left < size.node_count (spec.level_instantiate args.now term.now)) (λ rest. rest + size.node_count (spec.level_instantiate args.now term.now) ≡ left) }
+    ensures { MatchOption result (left < size.node_count (spec.level_instantiate args.now term.now))
+        (λ rest. rest + size.node_count (spec.level_instantiate args.now term.now) ≡ left) }
 {
     if !term.has_parameter() {
         return left.checked_sub(term.node_count());

@@ -4,7 +4,32 @@ use Rattle.lf_name.specs.Name.{Path}
 use Rattle.lf_syntax.specs.declared.leaf.Ident.{Ident}
 use Rattle.lf_text.specs.declared.operator.Op.{Op}
 use Rattle.lf_text.specs.declared.operator.Op.TheVariants.{Add}
-use Rattle.lf_syntax.specs.Tree.{LevelTree, level_number, level_name, level_plus, level_max, level_imax, levels_of, TermTree, ident, numeral, hole, paren, app, oper, arrow, no_term, some_term, TermTrees, end_terms, term_and, terms_of, option_of, place, binders}
+use Rattle.lf_syntax.specs.Tree.{
+  LevelTree,
+  level_number,
+  level_name,
+  level_plus,
+  level_max,
+  level_imax,
+  levels_of,
+  TermTree,
+  ident,
+  numeral,
+  hole,
+  paren,
+  app,
+  oper,
+  arrow,
+  no_term,
+  some_term,
+  TermTrees,
+  end_terms,
+  term_and,
+  terms_of,
+  option_of,
+  place,
+  binders,
+}
 use Rattle.lf_syntax.specs.Symbol.{Spine, GroupEnd, BinderEnd, arrow_to, arguments_to}
 use Rattle.lf_name.specs.declared.binder.BinderKind.TheVariants.{Explicit}
 

@@ -9,7 +9,71 @@ use Rattle.lf_syntax.specs.declared.leaf.Ident.{Ident}
 use Rattle.lf_syntax.specs.declared.leaf.Num.{Num}
 use Rattle.lf_text.specs.declared.operator.Op.{Op}
 use Rattle.lf_text.specs.declared.operator.Op.TheVariants.{Iff, Arrow, Or, And, Eq, Ne, Add, Sub, Mul, Div, Mod}
-use Rattle.lf_syntax.specs.Tree.{LevelTree, LevelTrees, TermTree, TermOption, TermTrees, BindersTree, LBinderTree, LBinderTrees, ItemTree, ItemTrees, RuleTree, RuleTrees, app, apply, arrow, assumption_item, binder_and, binders, block, by_term, cases, end_binders, end_items, end_rules, end_terms, exact, forall_term, fun_term, have_item, hole, ident, implicit, induction, injection, intro, item_and, let_term, level_and, level_imax, level_max, level_name, level_number, level_plus, no_level, no_term, not_term, numeral, oper, paren, plain, prop, rfl, rule, rule_and, rw_item, some_term, sorry_item, sorry_term, sort_u, term_and, type_u, typed, unfold_item}
+use Rattle.lf_syntax.specs.Tree.{
+  LevelTree,
+  LevelTrees,
+  TermTree,
+  TermOption,
+  TermTrees,
+  BindersTree,
+  LBinderTree,
+  LBinderTrees,
+  ItemTree,
+  ItemTrees,
+  RuleTree,
+  RuleTrees,
+  app,
+  apply,
+  arrow,
+  assumption_item,
+  binder_and,
+  binders,
+  block,
+  by_term,
+  cases,
+  end_binders,
+  end_items,
+  end_rules,
+  end_terms,
+  exact,
+  forall_term,
+  fun_term,
+  have_item,
+  hole,
+  ident,
+  implicit,
+  induction,
+  injection,
+  intro,
+  item_and,
+  let_term,
+  level_and,
+  level_imax,
+  level_max,
+  level_name,
+  level_number,
+  level_plus,
+  no_level,
+  no_term,
+  not_term,
+  numeral,
+  oper,
+  paren,
+  plain,
+  prop,
+  rfl,
+  rule,
+  rule_and,
+  rw_item,
+  some_term,
+  sorry_item,
+  sorry_term,
+  sort_u,
+  term_and,
+  type_u,
+  typed,
+  unfold_item,
+}
 use Rattle.lf_name.specs.Codes.{path, to_path, path_back, kind, to_kind, kind_back}
 
 abbrev pub code_kind : BinderKind → Gv
@@ -175,7 +239,8 @@ abbrev mutual
   code_term (not_term x0 x1) = gcons (gnum 10) (gcons (gnum x0) (gcons (code_term x1) gnil))
   code_term (fun_term x0 x1 x2) = gcons (gnum 11) (gcons (gnum x0) (gcons (code_lbinders x1) (gcons (code_term x2) gnil)))
   code_term (forall_term x0 x1 x2) = gcons (gnum 12) (gcons (gnum x0) (gcons (code_lbinders x1) (gcons (code_term x2) gnil)))
-  code_term (let_term x0 x1 x2 x3 x4) = gcons (gnum 13) (gcons (gnum x0) (gcons (code_ident x1) (gcons (code_term_option x2) (gcons (code_term x3) (gcons (code_term x4) gnil)))))
+  code_term (let_term x0 x1 x2 x3 x4) = gcons (gnum 13)
+      (gcons (gnum x0) (gcons (code_ident x1) (gcons (code_term_option x2) (gcons (code_term x3) (gcons (code_term x4) gnil)))))
   code_term (by_term x0 x1) = gcons (gnum 14) (gcons (gnum x0) (gcons (code_items x1) gnil))
   code_term (arrow x0 x1 x2) = gcons (gnum 15) (gcons (gnum x0) (gcons (code_binders x1) (gcons (code_term x2) gnil)))
 
@@ -236,13 +301,19 @@ abbrev mutual
   to_term (gcons (gnum (suc (suc (suc (suc (suc (suc zero))))))) (gcons (gnum x0) (gcons x1 gnil))) = sort_u x0 (to_level_option x1)
   to_term (gcons (gnum (suc (suc (suc (suc (suc (suc (suc zero)))))))) (gcons (gnum x0) (gcons x1 (gcons x2 gnil)))) = paren x0 (to_term x1) (to_term_option x2)
   to_term (gcons (gnum (suc (suc (suc (suc (suc (suc (suc (suc zero))))))))) (gcons (gnum x0) (gcons x1 (gcons x2 gnil)))) = app x0 (to_term x1) (to_terms x2)
-  to_term (gcons (gnum (suc (suc (suc (suc (suc (suc (suc (suc (suc zero)))))))))) (gcons (gnum x0) (gcons x1 (gcons x2 (gcons x3 gnil))))) = oper x0 (to_op x1) (to_term x2) (to_term x3)
+  to_term (gcons (gnum (suc (suc (suc (suc (suc (suc (suc (suc (suc zero)))))))))) (gcons (gnum x0) (gcons x1 (gcons x2 (gcons x3 gnil))))) =
+      oper x0 (to_op x1) (to_term x2) (to_term x3)
   to_term (gcons (gnum (suc (suc (suc (suc (suc (suc (suc (suc (suc (suc zero))))))))))) (gcons (gnum x0) (gcons x1 gnil))) = not_term x0 (to_term x1)
-  to_term (gcons (gnum (suc (suc (suc (suc (suc (suc (suc (suc (suc (suc (suc zero)))))))))))) (gcons (gnum x0) (gcons x1 (gcons x2 gnil)))) = fun_term x0 (to_lbinders x1) (to_term x2)
-  to_term (gcons (gnum (suc (suc (suc (suc (suc (suc (suc (suc (suc (suc (suc (suc zero))))))))))))) (gcons (gnum x0) (gcons x1 (gcons x2 gnil)))) = forall_term x0 (to_lbinders x1) (to_term x2)
-  to_term (gcons (gnum (suc (suc (suc (suc (suc (suc (suc (suc (suc (suc (suc (suc (suc zero)))))))))))))) (gcons (gnum x0) (gcons x1 (gcons x2 (gcons x3 (gcons x4 gnil)))))) = let_term x0 (to_ident x1) (to_term_option x2) (to_term x3) (to_term x4)
-  to_term (gcons (gnum (suc (suc (suc (suc (suc (suc (suc (suc (suc (suc (suc (suc (suc (suc zero))))))))))))))) (gcons (gnum x0) (gcons x1 gnil))) = by_term x0 (to_items x1)
-  to_term (gcons (gnum (suc (suc (suc (suc (suc (suc (suc (suc (suc (suc (suc (suc (suc (suc (suc zero)))))))))))))))) (gcons (gnum x0) (gcons x1 (gcons x2 gnil)))) = arrow x0 (to_binders x1) (to_term x2)
+  to_term (gcons (gnum (suc (suc (suc (suc (suc (suc (suc (suc (suc (suc (suc zero)))))))))))) (gcons (gnum x0) (gcons x1 (gcons x2 gnil)))) =
+      fun_term x0 (to_lbinders x1) (to_term x2)
+  to_term (gcons (gnum (suc (suc (suc (suc (suc (suc (suc (suc (suc (suc (suc (suc zero))))))))))))) (gcons (gnum x0) (gcons x1 (gcons x2 gnil)))) =
+      forall_term x0 (to_lbinders x1) (to_term x2)
+  to_term (gcons (gnum (suc (suc (suc (suc (suc (suc (suc (suc (suc (suc (suc (suc (suc zero))))))))))))))
+      (gcons (gnum x0) (gcons x1 (gcons x2 (gcons x3 (gcons x4 gnil)))))) = let_term x0 (to_ident x1) (to_term_option x2) (to_term x3) (to_term x4)
+  to_term (gcons (gnum (suc (suc (suc (suc (suc (suc (suc (suc (suc (suc (suc (suc (suc (suc zero))))))))))))))) (gcons (gnum x0) (gcons x1 gnil))) =
+      by_term x0 (to_items x1)
+  to_term (gcons (gnum (suc (suc (suc (suc (suc (suc (suc (suc (suc (suc (suc (suc (suc (suc (suc zero))))))))))))))))
+      (gcons (gnum x0) (gcons x1 (gcons x2 gnil)))) = arrow x0 (to_binders x1) (to_term x2)
   to_term _ = hole 0
 
   pub to_term_option : Gv → TermOption
@@ -279,7 +350,8 @@ abbrev mutual
   to_item (gcons (gnum (suc (suc (suc (suc (suc zero)))))) (gcons (gnum x0) gnil)) = assumption_item x0
   to_item (gcons (gnum (suc (suc (suc (suc (suc (suc zero))))))) (gcons (gnum x0) (gcons x1 gnil))) = rw_item x0 (to_rules x1)
   to_item (gcons (gnum (suc (suc (suc (suc (suc (suc (suc zero)))))))) (gcons (gnum x0) (gcons x1 gnil))) = unfold_item x0 (to_ident x1)
-  to_item (gcons (gnum (suc (suc (suc (suc (suc (suc (suc (suc zero))))))))) (gcons (gnum x0) (gcons x1 (gcons x2 (gcons x3 gnil))))) = have_item x0 (to_ident x1) (to_term x2) (to_term x3)
+  to_item (gcons (gnum (suc (suc (suc (suc (suc (suc (suc (suc zero))))))))) (gcons (gnum x0) (gcons x1 (gcons x2 (gcons x3 gnil))))) =
+      have_item x0 (to_ident x1) (to_term x2) (to_term x3)
   to_item (gcons (gnum (suc (suc (suc (suc (suc (suc (suc (suc (suc zero)))))))))) (gcons (gnum x0) (gcons x1 gnil))) = induction x0 (to_ident x1)
   to_item (gcons (gnum (suc (suc (suc (suc (suc (suc (suc (suc (suc (suc zero))))))))))) (gcons (gnum x0) (gcons x1 gnil))) = cases x0 (to_ident x1)
   to_item (gcons (gnum (suc (suc (suc (suc (suc (suc (suc (suc (suc (suc (suc zero)))))))))))) (gcons (gnum x0) (gcons x1 gnil))) = injection x0 (to_ident x1)

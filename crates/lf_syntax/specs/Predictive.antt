@@ -7,7 +7,8 @@ Takes Tree [] R = R
 Takes Tree (x ∷ xs) R = Tree x → Takes Tree xs R
 
 -- The trees of xs, made into an A, and then those of ys.
-abbrev pub join : {S : Type 0} (Tree : S → Type 0) {A : Type 0} (R : Type 0) (xs ys : List S) → Takes Tree xs A → (A → Takes Tree ys R) → Takes Tree (xs ++ ys) R
+abbrev pub join : {S : Type 0} (Tree : S → Type 0) {A : Type 0} (R : Type 0) (xs ys : List S) → Takes Tree xs A → (A → Takes Tree ys R)
+    → Takes Tree (xs ++ ys) R
 join Tree R [] ys a k = k a
 join Tree R (x ∷ xs) ys f k = λ v. join Tree R xs ys (f v) k
 

@@ -1,4 +1,36 @@
-use Rattle.std.proofs.Common.{⊎_elim, ◌↔◌, add-one, Contains, ◌≡◌, ℕ, ◌≤◌, ◌<◌, List, [], ◌∷◌, ◌++◌, length, take, drop, get_or, Bool, true, false, cond, ◌&&◌, refl, sym, ap, ◌∙◌, arith, Some, None, zero, suc, Ordering}
+use Rattle.std.proofs.Common.{
+  ⊎_elim,
+  ◌↔◌,
+  add-one,
+  Contains,
+  ◌≡◌,
+  ℕ,
+  ◌≤◌,
+  ◌<◌,
+  List,
+  [],
+  ◌∷◌,
+  ◌++◌,
+  length,
+  take,
+  drop,
+  get_or,
+  Bool,
+  true,
+  false,
+  cond,
+  ◌&&◌,
+  refl,
+  sym,
+  ap,
+  ◌∙◌,
+  arith,
+  Some,
+  None,
+  zero,
+  suc,
+  Ordering,
+}
 use Rattle.std.specs.Ordering.{nat_cmp, is_lt, is_eq, ordering_reverse}
 use Rattle.std.specs.declared.cmp.Ordering.TheVariants.{Less, Equal, Greater}
 use Rattle.std.specs.Cmp.Lexicographic.{slice_cmp}
@@ -87,7 +119,8 @@ pub found : {V : Type 0} (key : List ℕ) (rs : List (Bor (List ℕ) × V)) (i :
     i < length rs → compare (get_or rs i d).0.now key ≡ Equal → value_of key (rows_of rs) ≡ Some (get_or rs i d).1
 found {V} key rs i d e l q =
     let cut : rows_of rs ≡ rows_of (take i rs) ++ ((get_or rs i d).0.now, (get_or rs i d).1) ∷ rows_of (drop (suc i) rs) = get_or-rows rs i d l in
-    ap (value_of key) cut ∙ value_of-at key (rows_of (take i rs)) ((get_or rs i d).0.now, (get_or rs i d).1) (rows_of (drop (suc i) rs)) (sym (ap keys_rise cut) ∙ e) q
+    ap (value_of key) cut ∙ value_of-at key (rows_of (take i rs)) ((get_or rs i d).0.now, (get_or rs i d).1) (rows_of (drop (suc i) rs))
+    (sym (ap keys_rise cut) ∙ e) q
 
 none_found : {V : Type 0} (key : List ℕ) (rs : List (Bor (List ℕ) × V)) →
     ((k : ℕ) (d : Bor (List ℕ) × V) → k < length rs → bytes_eq (get_or rs k d).0.now key ≡ false) → value_of key (rows_of rs) ≡ None

@@ -1,4 +1,39 @@
-use Rattle.std.proofs.Common.{◌≡◌, ℕ, ◌+◌, ◌-◌, ◌≤◌, ◌<◌, List, [], ◌∷◌, ◌++◌, length, take, drop, get_or, Bool, true, false, cond, not, ◌==◌, refl, sym, ap, ◌∙◌, subst, arith, zero, suc, count_by, leb, true≢false, add-one, ◌≢◌, ⊎_elim}
+use Rattle.std.proofs.Common.{
+  ◌≡◌,
+  ℕ,
+  ◌+◌,
+  ◌-◌,
+  ◌≤◌,
+  ◌<◌,
+  List,
+  [],
+  ◌∷◌,
+  ◌++◌,
+  length,
+  take,
+  drop,
+  get_or,
+  Bool,
+  true,
+  false,
+  cond,
+  not,
+  ◌==◌,
+  refl,
+  sym,
+  ap,
+  ◌∙◌,
+  subst,
+  arith,
+  zero,
+  suc,
+  count_by,
+  leb,
+  true≢false,
+  add-one,
+  ◌≢◌,
+  ⊎_elim,
+}
 use Rattle.std.specs.List.{suffix_len, after_last}
 use Rattle.std.specs.List.Sorted.{IsNonDecreasingBy, IsPartitionPoint, IsPartitionedBy}
 use Rattle.std.proofs.lemmas.List.Sums.{suffix_len_is}
@@ -192,14 +227,16 @@ later_line bytes at n w p =
     let b : Behind 0 bytes (get_or (line_starts 0 bytes) n 0) = behind 0 bytes n (omega (arith, p.within)) in
     let low : get_or (line_starts 0 bytes) n 0 ≤ at = p.low n (omega arith) in
     let feed : get_or bytes (get_or (line_starts 0 bytes) n 0 - 1) 0 ≡ 10 =
-    (let a : get_or (line_starts 0 bytes) n 0 - 0 - 1 ≡ get_or (line_starts 0 bytes) n 0 - 1 = omega arith in subst (λ (i : ℕ). get_or bytes i 0 ≡ 10) a b.feed) in
+    (let a : get_or (line_starts 0 bytes) n 0 - 0 - 1 ≡ get_or (line_starts 0 bytes) n 0 - 1 =
+    omega arith in subst (λ (i : ℕ). get_or bytes i 0 ≡ 10) a b.feed) in
     record {
       before = low;
       feed = λ h. feed;
       line = line_from bytes at (get_or (line_starts 0 bytes) n 0) w low
           (λ i l u h. let (j, m, e) = listed 0 bytes i (omega arith) h in
           ⊎_elim
-          (λ (early : j < suc n). let r : get_or (line_starts 0 bytes) j 0 ≤ get_or (line_starts 0 bytes) n 0 = rises (line_starts 0 bytes) (rising 0 bytes) j n (omega arith) (omega (arith, p.within)) in omega arith)
+          (λ (early : j < suc n). let r : get_or (line_starts 0 bytes) j 0 ≤ get_or (line_starts 0 bytes) n 0 =
+          rises (line_starts 0 bytes) (rising 0 bytes) j n (omega arith) (omega (arith, p.within)) in omega arith)
           (λ (late : suc n ≤ j). let f : at < get_or (line_starts 0 bytes) j 0 = p.high j late m in omega arith)
           (cases_lt j (suc n)))
           (λ h. feed);

@@ -119,7 +119,8 @@ put_led at column end role opens first put = if is Command role then end_command
 
 abbrev pub put_before : List ℕ → Token → List Frame → Token → Put
 put_before bytes previous frames t =
-    put_led t.at (column_of bytes t.at) (previous.at + previous.len) (role_of t.kind) (opens_block (role_of previous.kind) (role_of t.kind)) (is_first bytes previous t)
+    put_led t.at (column_of bytes t.at) (previous.at + previous.len) (role_of t.kind) (opens_block (role_of previous.kind) (role_of t.kind))
+    (is_first bytes previous t)
     (nothing frames)
 
 -- what is open behind a token

@@ -1,4 +1,36 @@
-use Rattle.std.specs.Prelude.{ℕ, zero, suc, ◌+◌, ◌-◌, ◌^◌, List, [], ◌∷◌, ◌++◌, length, take, drop, max, Bool, false, not, ◌||◌, ◌&&◌, ◌==◌, nat_le, nat_lt, nat_eq, if◌then◌else◌, Option, None, Some, is_some, unwrap_or, option_map, codes}
+use Rattle.std.specs.Prelude.{
+  ℕ,
+  zero,
+  suc,
+  ◌+◌,
+  ◌-◌,
+  ◌^◌,
+  List,
+  [],
+  ◌∷◌,
+  ◌++◌,
+  length,
+  take,
+  drop,
+  max,
+  Bool,
+  false,
+  not,
+  ◌||◌,
+  ◌&&◌,
+  ◌==◌,
+  nat_le,
+  nat_lt,
+  nat_eq,
+  if◌then◌else◌,
+  Option,
+  None,
+  Some,
+  is_some,
+  unwrap_or,
+  option_map,
+  codes,
+}
 use Rattle.std.specs.Option.{option_to_list}
 use Rattle.std.specs.List.{prefix_len, list_all, list_any, slice_split, starts_with}
 use Rattle.std.specs.Str.{encode_utf8_all, chars}

@@ -4,7 +4,21 @@ use Rattle.lf_text.specs.declared.nesting.Count.{Count}
 use Rattle.lf_text.specs.declared.nesting.Enclosure.{Enclosure}
 use Rattle.lf_text.specs.declared.nesting.Enclosure.TheVariants.{Block, Bracket}
 use Rattle.lf_text.specs.declared.role.Role.{Role}
-use Rattle.lf_text.specs.declared.role.Role.TheVariants.{Command, BlockOpener, Where, Bar, Opening, Closing, Let, Semicolon, Nesting, BlockOpen, BlockSep, BlockClose, Other}
+use Rattle.lf_text.specs.declared.role.Role.TheVariants.{
+  Command,
+  BlockOpener,
+  Where,
+  Bar,
+  Opening,
+  Closing,
+  Let,
+  Semicolon,
+  Nesting,
+  BlockOpen,
+  BlockSep,
+  BlockClose,
+  Other,
+}
 use Rattle.lf_text.specs.declared.token.Token.{Token}
 use Rattle.lf_text.specs.Roles.{role_of}
 

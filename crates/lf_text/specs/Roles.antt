@@ -5,7 +5,21 @@ use Rattle.lf_text.specs.declared.word.Word.TheVariants as word
 use Rattle.lf_text.specs.declared.token.TokenKind.{TokenKind}
 use Rattle.lf_text.specs.declared.token.TokenKind.TheVariants as kind
 use Rattle.lf_text.specs.declared.role.Role.{Role}
-use Rattle.lf_text.specs.declared.role.Role.TheVariants.{Command, BlockOpener, Where, Bar, Opening, Closing, Let, Semicolon, Nesting, BlockOpen, BlockSep, BlockClose, Other}
+use Rattle.lf_text.specs.declared.role.Role.TheVariants.{
+  Command,
+  BlockOpener,
+  Where,
+  Bar,
+  Opening,
+  Closing,
+  Let,
+  Semicolon,
+  Nesting,
+  BlockOpen,
+  BlockSep,
+  BlockClose,
+  Other,
+}
 
 abbrev pub word_role : Word → Role
 word_role word.Axiom = Command

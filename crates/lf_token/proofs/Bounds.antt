@@ -4,7 +4,21 @@ use Rattle.lf_text.specs.declared.nesting.Count.{Count}
 use Rattle.lf_text.specs.declared.nesting.Enclosure.{Enclosure}
 use Rattle.lf_text.specs.declared.nesting.Enclosure.TheVariants.{Block, Bracket}
 use Rattle.lf_text.specs.declared.role.Role.{Role}
-use Rattle.lf_text.specs.declared.role.Role.TheVariants.{Command, BlockOpener, Where, Bar, Opening, Closing, Let, Semicolon, Nesting, BlockOpen, BlockSep, BlockClose, Other}
+use Rattle.lf_text.specs.declared.role.Role.TheVariants.{
+  Command,
+  BlockOpener,
+  Where,
+  Bar,
+  Opening,
+  Closing,
+  Let,
+  Semicolon,
+  Nesting,
+  BlockOpen,
+  BlockSep,
+  BlockClose,
+  Other,
+}
 use Rattle.lf_text.specs.declared.token.Token.{Token}
 use Rattle.lf_text.specs.Roles.{role_of}
 use Rattle.lf_text.specs.Nesting.{Nest, nesting_of, nesting_after, next_item, leave_block, leave_bracket, at_semicolon}
@@ -68,5 +82,6 @@ after_within k n Other h = later k n h
 
 -- the numbers of one token and of the rest
 pub numbers_step : (n : Nest) (tokens : List Token) (i : ℕ) (d : Token) → i < length tokens →
-    nesting_of n (drop i tokens) ≡ (nesting_after n (role_of (get_or tokens i d).kind)).count.number ∷ nesting_of (nesting_after n (role_of (get_or tokens i d).kind)) (drop (i + 1) tokens)
+    nesting_of n (drop i tokens) ≡ (nesting_after n (role_of (get_or tokens i d).kind)).count.number
+    ∷ nesting_of (nesting_after n (role_of (get_or tokens i d).kind)) (drop (i + 1) tokens)
 numbers_step n tokens i d l = rw (add-one, drop-cons tokens i d) refl

@@ -1,4 +1,35 @@
-use Rattle.std.proofs.Common.{◌≡◌, ℕ, ◌+◌, ◌-◌, ◌≤◌, ◌<◌, List, [], ◌∷◌, length, drop, get_or, Bool, true, false, cond, ◌&&◌, ◌==◌, refl, sym, ap, ◌∙◌, arith, zero, suc, Option, Some, None, drop-cons, add-one}
+use Rattle.std.proofs.Common.{
+  ◌≡◌,
+  ℕ,
+  ◌+◌,
+  ◌-◌,
+  ◌≤◌,
+  ◌<◌,
+  List,
+  [],
+  ◌∷◌,
+  length,
+  drop,
+  get_or,
+  Bool,
+  true,
+  false,
+  cond,
+  ◌&&◌,
+  ◌==◌,
+  refl,
+  sym,
+  ap,
+  ◌∙◌,
+  arith,
+  zero,
+  suc,
+  Option,
+  Some,
+  None,
+  drop-cons,
+  add-one,
+}
 use Rattle.std.specs.Prelude.{option_map}
 use Rattle.std.proofs.lemmas.List.{length-drop}
 use Rattle.lf_text.specs.Lexemes.{Mark, mark_of, through}
@@ -38,14 +69,20 @@ through_zero : (a b : ℕ) (cs : List ℕ) →
 through_zero a b cs = led_zero (mark_of a b) b cs
 
 led_suc : (m : Mark) (d b : ℕ) (cs : List ℕ) →
-    elim m as (λ _. Option ℕ) [ opens ↦ option_map (λ n. n + 2) (through (suc (suc d)) cs) | closes ↦ option_map (λ n. n + 2) (through d cs) | other ↦ option_map (λ n. n + 1) (through (suc d) (b ∷ cs)) ]
+    elim m as (λ _. Option ℕ) [
+      | opens ↦ option_map (λ n. n + 2) (through (suc (suc d)) cs)
+      | closes ↦ option_map (λ n. n + 2) (through d cs)
+      | other ↦
+          option_map (λ n. n + 1) (through (suc d) (b ∷ cs))
+    ]
     ≡ led m (option_map (λ n. n + 2) (through (suc (suc d)) cs)) (option_map (λ n. n + 2) (through d cs)) (option_map (λ n. n + 1) (through (suc d) (b ∷ cs)))
 led_suc opens d b cs = refl
 led_suc closes d b cs = refl
 led_suc other d b cs = refl
 
 through_suc : (d a b : ℕ) (cs : List ℕ) →
-    through (suc d) (a ∷ b ∷ cs) ≡ led (mark_of a b) (option_map (λ n. n + 2) (through (suc (suc d)) cs)) (option_map (λ n. n + 2) (through d cs)) (option_map (λ n. n + 1) (through (suc d) (b ∷ cs)))
+    through (suc d) (a ∷ b ∷ cs) ≡ led (mark_of a b) (option_map (λ n. n + 2) (through (suc (suc d)) cs)) (option_map (λ n. n + 2) (through d cs))
+    (option_map (λ n. n + 1) (through (suc d) (b ∷ cs)))
 through_suc d a b cs = led_suc (mark_of a b) d b cs
 
 pub through_opens : (d a b : ℕ) (cs : List ℕ) → opened a b ≡ true → through d (a ∷ b ∷ cs) ≡ option_map (λ n. n + 2) (through (suc d) cs)
@@ -53,7 +90,8 @@ through_opens zero a b cs e =
     through_zero a b cs ∙ ap (λ m. led m (option_map (λ n. n + 2) (through 1 cs)) (Some 2) (option_map (λ n. n + 1) (through 0 (b ∷ cs)))) (opens_mark a b e)
 through_opens (suc d) a b cs e =
     through_suc d a b cs
-    ∙ ap (λ m. led m (option_map (λ n. n + 2) (through (suc (suc d)) cs)) (option_map (λ n. n + 2) (through d cs)) (option_map (λ n. n + 1) (through (suc d) (b ∷ cs)))) (opens_mark a b e)
+    ∙ ap (λ m. led m (option_map (λ n. n + 2) (through (suc (suc d)) cs)) (option_map (λ n. n + 2) (through d cs))
+    (option_map (λ n. n + 1) (through (suc d) (b ∷ cs)))) (opens_mark a b e)
 
 pub through_last : (a b : ℕ) (cs : List ℕ) → opened a b ≡ false → closed a b ≡ true → through 0 (a ∷ b ∷ cs) ≡ Some 2
 through_last a b cs e f =
@@ -62,14 +100,16 @@ through_last a b cs e f =
 pub through_closes : (d a b : ℕ) (cs : List ℕ) → opened a b ≡ false → closed a b ≡ true → through (suc d) (a ∷ b ∷ cs) ≡ option_map (λ n. n + 2) (through d cs)
 through_closes d a b cs e f =
     through_suc d a b cs
-    ∙ ap (λ m. led m (option_map (λ n. n + 2) (through (suc (suc d)) cs)) (option_map (λ n. n + 2) (through d cs)) (option_map (λ n. n + 1) (through (suc d) (b ∷ cs)))) (closes_mark a b e f)
+    ∙ ap (λ m. led m (option_map (λ n. n + 2) (through (suc (suc d)) cs)) (option_map (λ n. n + 2) (through d cs))
+    (option_map (λ n. n + 1) (through (suc d) (b ∷ cs)))) (closes_mark a b e f)
 
 pub through_other : (d a b : ℕ) (cs : List ℕ) → opened a b ≡ false → closed a b ≡ false → through d (a ∷ b ∷ cs) ≡ option_map (λ n. n + 1) (through d (b ∷ cs))
 through_other zero a b cs e f =
     through_zero a b cs ∙ ap (λ m. led m (option_map (λ n. n + 2) (through 1 cs)) (Some 2) (option_map (λ n. n + 1) (through 0 (b ∷ cs)))) (other_mark a b e f)
 through_other (suc d) a b cs e f =
     through_suc d a b cs
-    ∙ ap (λ m. led m (option_map (λ n. n + 2) (through (suc (suc d)) cs)) (option_map (λ n. n + 2) (through d cs)) (option_map (λ n. n + 1) (through (suc d) (b ∷ cs)))) (other_mark a b e f)
+    ∙ ap (λ m. led m (option_map (λ n. n + 2) (through (suc (suc d)) cs)) (option_map (λ n. n + 2) (through d cs))
+    (option_map (λ n. n + 1) (through (suc d) (b ∷ cs)))) (other_mark a b e f)
 
 -- at n characters, with so many comments open inside, the rest tells where the first ends
 abbrev pub Still : ℕ → ℕ → List ℕ → Type 0
@@ -100,7 +140,8 @@ still_opens cs n d l e s =
     ∙ sym (shift n 2 (through (suc d) (drop (n + 2) cs)))
     ∙ ap (option_map (λ k. k + n)) (sym (ap (through d) (cut cs n l) ∙ through_opens d (get_or cs n 0) (get_or cs (n + 1) 0) (drop (n + 2) cs) e)) ∙ s
 
-pub still_closes : (cs : List ℕ) (n d : ℕ) → n + 1 < length cs → opened (get_or cs n 0) (get_or cs (n + 1) 0) ≡ false → closed (get_or cs n 0) (get_or cs (n + 1) 0) ≡ true →
+pub still_closes : (cs : List ℕ) (n d : ℕ) → n + 1 < length cs → opened (get_or cs n 0) (get_or cs (n + 1) 0) ≡ false
+    → closed (get_or cs n 0) (get_or cs (n + 1) 0) ≡ true →
     0 < d → Still d n cs → Still (d - 1) (n + 2) cs
 still_closes cs n zero l e f p s = absurd (omega arith)
 still_closes cs n (suc d) l e f p s =
@@ -108,13 +149,15 @@ still_closes cs n (suc d) l e f p s =
     ∙ sym (shift n 2 (through d (drop (n + 2) cs)))
     ∙ ap (option_map (λ k. k + n)) (sym (ap (through (suc d)) (cut cs n l) ∙ through_closes d (get_or cs n 0) (get_or cs (n + 1) 0) (drop (n + 2) cs) e f)) ∙ s
 
-pub closes_last : (cs : List ℕ) (n : ℕ) → n + 1 < length cs → opened (get_or cs n 0) (get_or cs (n + 1) 0) ≡ false → closed (get_or cs n 0) (get_or cs (n + 1) 0) ≡ true →
+pub closes_last : (cs : List ℕ) (n : ℕ) → n + 1 < length cs → opened (get_or cs n 0) (get_or cs (n + 1) 0) ≡ false
+    → closed (get_or cs n 0) (get_or cs (n + 1) 0) ≡ true →
     Still 0 n cs → Some (n + 2) ≡ through 0 cs
 closes_last cs n l e f s =
     ap Some (let a : n + 2 ≡ 2 + n = omega arith in a)
     ∙ ap (option_map (λ k. k + n)) (sym (ap (through 0) (cut cs n l) ∙ through_last (get_or cs n 0) (get_or cs (n + 1) 0) (drop (n + 2) cs) e f)) ∙ s
 
-pub still_other : (cs : List ℕ) (n d : ℕ) → n + 1 < length cs → opened (get_or cs n 0) (get_or cs (n + 1) 0) ≡ false → closed (get_or cs n 0) (get_or cs (n + 1) 0) ≡ false →
+pub still_other : (cs : List ℕ) (n d : ℕ) → n + 1 < length cs → opened (get_or cs n 0) (get_or cs (n + 1) 0) ≡ false
+    → closed (get_or cs n 0) (get_or cs (n + 1) 0) ≡ false →
     Still d n cs → Still d (n + 1) cs
 still_other cs n d l e f s =
     sym (shift n 1 (through d (drop (n + 1) cs)))

@@ -1,4 +1,37 @@
-use Rattle.std.proofs.Common.{◌≡◌, ℕ, ◌+◌, ◌-◌, ◌≤◌, ◌<◌, List, [], ◌∷◌, ◌++◌, length, take, drop, get_or, Bool, true, false, cond, not, refl, sym, ap, ◌∙◌, subst, arith, zero, suc, append_assoc, append-nil, Option, Some, None}
+use Rattle.std.proofs.Common.{
+  ◌≡◌,
+  ℕ,
+  ◌+◌,
+  ◌-◌,
+  ◌≤◌,
+  ◌<◌,
+  List,
+  [],
+  ◌∷◌,
+  ◌++◌,
+  length,
+  take,
+  drop,
+  get_or,
+  Bool,
+  true,
+  false,
+  cond,
+  not,
+  refl,
+  sym,
+  ap,
+  ◌∙◌,
+  subst,
+  arith,
+  zero,
+  suc,
+  append_assoc,
+  append-nil,
+  Option,
+  Some,
+  None,
+}
 use Rattle.std.specs.Prelude.{nat_eq, codes, option_map, is_some, replicate}
 use Rattle.std.specs.List.{prefix_len, starts_with}
 use Rattle.std.specs.Str.{encode_utf8_all, chars}
@@ -15,7 +48,28 @@ use Rattle.lf_text.specs.declared.role.Role.{Role}
 use Rattle.lf_text.specs.declared.role.Role.TheVariants.{Command}
 use Rattle.lf_text.specs.Roles.{role_of, is}
 use Rattle.lf_text.specs.Lexemes.{through, is_white, piece_at, comment_at, kind_of, longest_up_to, longest_token, lexeme, lexemes_from, lexemes_of}
-use Rattle.lf_text.specs.Layout.{Put, mark, nothing, close, open_block, part_items, new_line, at_where, at_closing, end_command, blocks, blocks_above, deeper_blocks, is_block_at, is_first, opens_block, put_inside, put_before, frames_after, laid_out}
+use Rattle.lf_text.specs.Layout.{
+  Put,
+  mark,
+  nothing,
+  close,
+  open_block,
+  part_items,
+  new_line,
+  at_where,
+  at_closing,
+  end_command,
+  blocks,
+  blocks_above,
+  deeper_blocks,
+  is_block_at,
+  is_first,
+  opens_block,
+  put_inside,
+  put_before,
+  frames_after,
+  laid_out,
+}
 use Rattle.lf_text.specs.Tokens.{tokens_of}
 use Rattle.lf_token.specs.Spelling.{width}
 use Rattle.lf_token.specs.Cover.{IsSpace, IsBlank, Covers}
@@ -75,7 +129,8 @@ local d (a ∷ b ∷ xs) n e =
           two = omega arith;
           within = omega (arith, h.within);
           same = let q : n ≡ suc (suc m) = omega arith in
-              ap (λ (i : ℕ). through (suc d) (take i (a ∷ b ∷ xs))) q ∙ through_closes d a b (take m xs) o k ∙ ap (option_map (λ k. k + 2)) h.same ∙ ap Some (sym p);
+              ap (λ (i : ℕ). through (suc d) (take i (a ∷ b ∷ xs))) q ∙ through_closes d a b (take m xs) o k ∙ ap (option_map (λ k. k + 2)) h.same
+              ∙ ap Some (sym p);
         }
     by_mark false false o k d e inner next =
         let (m, s, p) = some_sum (through d (b ∷ xs)) 1 n (sym (through_other d a b xs o k) ∙ e) in
@@ -143,7 +198,8 @@ comment_fits cs e = by_end (through 0 (drop 2 cs)) refl
 piece_fits : (cs : List ℕ) → 0 < length cs → Fits cs (piece_at cs)
 piece_fits cs l = by_tests (is_white (get_or cs 0 0)) (starts_with nat_eq cs (codes "--")) (starts_with nat_eq cs (codes "/-")) refl refl refl
   where
-    by_tests : (w d c : Bool) → is_white (get_or cs 0 0) ≡ w → starts_with nat_eq cs (codes "--") ≡ d → starts_with nat_eq cs (codes "/-") ≡ c → Fits cs (piece_at cs)
+    by_tests : (w d c : Bool) → is_white (get_or cs 0 0) ≡ w → starts_with nat_eq cs (codes "--") ≡ d → starts_with nat_eq cs (codes "/-") ≡ c
+        → Fits cs (piece_at cs)
     by_tests true d c e f g =
         subst (Fits cs) (sym (piece_white cs l e)) (record { some = omega arith; within = omega arith; space = λ _. one cs l e })
       where
@@ -177,7 +233,8 @@ width_append xs ys = ap length (encodes-append xs ys) ∙ length-append (encode_
 
 -- The tokens without the layout tokens cover.
 
-covers_lexemes : (size at place : ℕ) (gap cs : List ℕ) → length cs ≤ size → IsBlank gap → place ≡ at + width gap → Covers at (gap ++ cs) (lexemes_from place 0 cs)
+covers_lexemes : (size at place : ℕ) (gap cs : List ℕ) → length cs ≤ size → IsBlank gap → place ≡ at + width gap
+    → Covers at (gap ++ cs) (lexemes_from place 0 cs)
 covers_lexemes size at place gap [] l b p = subst IsBlank (sym (append-nil gap)) b
 covers_lexemes zero at place gap (c ∷ cs) l b p = absurd (omega arith)
 covers_lexemes (suc size) at place gap (c ∷ cs) l b p =
@@ -190,7 +247,8 @@ covers_lexemes (suc size) at place gap (c ∷ cs) l b p =
     (by_kind at place gap (c ∷ cs) n b p (piece_at (c ∷ cs)).0 h.space
     (λ a q g. covers_lexemes size a q g (drop (piece_at (c ∷ cs)).1 (c ∷ cs)) less))
   where
-    by_kind : (at place : ℕ) (gap all : List ℕ) (n : ℕ) → IsBlank gap → place ≡ at + width gap → (kind : Option TokenKind) → (kind ≡ None → IsSpace (take n all)) →
+    by_kind : (at place : ℕ) (gap all : List ℕ) (n : ℕ) → IsBlank gap → place ≡ at + width gap → (kind : Option TokenKind)
+        → (kind ≡ None → IsSpace (take n all)) →
         ((a q : ℕ) (g : List ℕ) → IsBlank g → q ≡ a + width g → Covers a (g ++ drop n all) (lexemes_from q 0 (drop n all))) →
         Covers at (gap ++ all) (lexeme place (take n all) kind ++ lexemes_from (place + width (take n all)) 0 (drop n all))
     by_kind at place gap all n b p None space ih =
@@ -237,7 +295,8 @@ marked_open : (p column : ℕ) (put : Put) → Marked p put → Marked p (open_b
 marked_open p column put a = marks_append p put.tokens (mark LayoutOpen p ∷ []) a (refl, refl, tt)
 
 marked_part : (p column : ℕ) (put : Put) → Marked p put → Marked p (part_items p column put)
-marked_part p column put a = marks_append p put.tokens (cond (is_block_at column put.frames) (mark LayoutSep p ∷ []) []) a (step (is_block_at column put.frames))
+marked_part p column put a = marks_append p put.tokens (cond (is_block_at column put.frames) (mark LayoutSep p ∷ []) []) a
+    (step (is_block_at column put.frames))
   where
     step : (b : Bool) → AllMarks p (cond b (mark LayoutSep p ∷ []) [])
     step true = (refl, refl, tt)
@@ -265,7 +324,8 @@ marked_inside at column role opens first frames =
     (marked_where at role (nothing frames) tt)))
 
 -- so they cover nothing, where they stand at the end of the last token
-marks_here : (marks : List Token) (p at : ℕ) (cs : List ℕ) (tokens : List Token) → AllMarks p marks → p ≡ at → Covers at cs tokens → Covers at cs (marks ++ tokens)
+marks_here : (marks : List Token) (p at : ℕ) (cs : List ℕ) (tokens : List Token) → AllMarks p marks → p ≡ at → Covers at cs tokens
+    → Covers at cs (marks ++ tokens)
 marks_here [] p at cs tokens a e c = c
 marks_here (m ∷ marks) p at cs tokens a e c =
     let same : at ≡ m.at + m.len = omega (arith, a.0, a.1) in (
@@ -280,7 +340,8 @@ marks_here (m ∷ marks) p at cs tokens a e c =
     )
 
 -- or at the next token
-marks_before : (marks : List Token) (at : ℕ) (cs : List ℕ) (t : Token) (tokens : List Token) → AllMarks t.at marks → Covers at cs (t ∷ tokens) → Covers at cs (marks ++ (t ∷ tokens))
+marks_before : (marks : List Token) (at : ℕ) (cs : List ℕ) (t : Token) (tokens : List Token) → AllMarks t.at marks → Covers at cs (t ∷ tokens)
+    → Covers at cs (marks ++ (t ∷ tokens))
 marks_before [] at cs t tokens a c = c
 marks_before (m ∷ marks) at cs t tokens a (gap, text, rest, e, b, p, l, c) = (
   gap,
@@ -294,7 +355,8 @@ marks_before (m ∷ marks) at cs t tokens a (gap, text, rest, e, b, p, l, c) = (
       ([], text, rest, refl, none, omega (arith, a.0, a.1), l, c),
 )
 
-covers_put : (b : Bool) (column end : ℕ) (role : Role) (opens first : Bool) (frames : List Frame) (at : ℕ) (cs : List ℕ) (t : Token) (tokens : List Token) → end ≡ at →
+covers_put : (b : Bool) (column end : ℕ) (role : Role) (opens first : Bool) (frames : List Frame) (at : ℕ) (cs : List ℕ) (t : Token) (tokens : List Token)
+    → end ≡ at →
     Covers at cs (t ∷ tokens) →
     Covers at cs ((cond b (end_command end (nothing frames)) (put_inside t.at column role opens first (nothing frames))).tokens ++ (t ∷ tokens))
 covers_put true column end role opens first frames at cs t tokens e c =
@@ -309,9 +371,19 @@ covers_laid bytes previous frames at cs [] e c =
     (marks_here (replicate (blocks frames) (mark LayoutClose (previous.at + previous.len))) (previous.at + previous.len) at cs []
     (marks_replicate (previous.at + previous.len) (blocks frames) LayoutClose) e c)
 covers_laid bytes previous frames at cs (t ∷ tokens) e (gap, text, rest, f, b, p, l, c) =
-    covers_put (is Command (role_of t.kind)) (column_of bytes t.at) (previous.at + previous.len) (role_of t.kind) (opens_block (role_of previous.kind) (role_of t.kind)) (is_first bytes previous t)
-    frames at cs t _ e
-    (gap, text, rest, f, b, p, l, covers_laid bytes t (frames_after (role_of t.kind) (put_before bytes previous frames t).frames) (t.at + t.len) rest tokens refl c)
+    covers_put (is Command (role_of t.kind)) (column_of bytes t.at) (previous.at + previous.len) (role_of t.kind)
+    (opens_block (role_of previous.kind) (role_of t.kind)) (is_first bytes previous t)
+    frames at cs t _ e (
+      gap,
+      text,
+      rest,
+      f,
+      b,
+      p,
+      l,
+      covers_laid bytes t (frames_after (role_of t.kind) (put_before bytes previous frames t).frames) (t.at + t.len) rest tokens
+          refl c,
+    )
 
 -- the tokens of a text cover it
 pub tokens_cover : (bytes : List ℕ) → Covers 0 (chars bytes) (tokens_of bytes)

@@ -1,4 +1,29 @@
-use Rattle.std.proofs.Common.{◌≡◌, ℕ, ◌+◌, ◌*◌, ◌^◌, ◌≤◌, ◌<◌, List, [], ◌∷◌, length, drop, get_or, true, cond, refl, sym, arith, zero, suc, Some, None, drop-cons, add-one}
+use Rattle.std.proofs.Common.{
+  ◌≡◌,
+  ℕ,
+  ◌+◌,
+  ◌*◌,
+  ◌^◌,
+  ◌≤◌,
+  ◌<◌,
+  List,
+  [],
+  ◌∷◌,
+  length,
+  drop,
+  get_or,
+  true,
+  cond,
+  refl,
+  sym,
+  arith,
+  zero,
+  suc,
+  Some,
+  None,
+  drop-cons,
+  add-one,
+}
 use Rattle.std.specs.Prelude.{nat_lt, nat_le}
 use Rattle.std.specs.List.{list_all}
 use Rattle.std.specs.Char.{digit_value}
@@ -10,16 +35,19 @@ use Rattle.lf_token.proofs.Logic.{and_left, and_right, false_from, if_true, if_f
 -- digits behind a number make it no smaller
 pub value_grows : (n : ℕ) (cs : List ℕ) → n ≤ digits_value_after 10 n cs
 value_grows n [] = omega arith
-value_grows n (c ∷ cs) = let h : n * 10 + digit_value c ≤ digits_value_after 10 (n * 10 + digit_value c) cs = value_grows (n * 10 + digit_value c) cs in omega arith
+value_grows n (c ∷ cs) = let h : n * 10 + digit_value c ≤ digits_value_after 10 (n * 10 + digit_value c) cs =
+    value_grows (n * 10 + digit_value c) cs in omega arith
 
-pub value_step : (n : ℕ) (cs : List ℕ) (i : ℕ) → i < length cs → digits_value_after 10 n (drop i cs) ≡ digits_value_after 10 (n * 10 + digit_value (get_or cs i 0)) (drop (i + 1) cs)
+pub value_step : (n : ℕ) (cs : List ℕ) (i : ℕ) → i < length cs
+    → digits_value_after 10 n (drop i cs) ≡ digits_value_after 10 (n * 10 + digit_value (get_or cs i 0)) (drop (i + 1) cs)
 value_step n cs i l = rw (add-one, drop-cons cs i 0) refl
 
 pub fits : (n : ℕ) → n < 2 ^ 128 → Some n ≡ cond (nat_lt n (2 ^ 128)) (Some n) None
 fits n l = sym (if_true (nat_lt n (2 ^ 128)) (Some n) None (lt-ltb n (2 ^ 128) l))
 
 pub passes : (n : ℕ) → 2 ^ 128 ≤ n → None ≡ cond (nat_lt n (2 ^ 128)) (Some n) None
-passes n l = sym (if_false (nat_lt n (2 ^ 128)) (Some n) None (false_from (nat_lt n (2 ^ 128)) (λ e. absurd (let h : n < 2 ^ 128 = ltb-true n (2 ^ 128) e in omega arith))))
+passes n l = sym (if_false (nat_lt n (2 ^ 128)) (Some n) None
+    (false_from (nat_lt n (2 ^ 128)) (λ e. absurd (let h : n < 2 ^ 128 = ltb-true n (2 ^ 128) e in omega arith))))
 
 pub digit_in : (cs : List ℕ) (i : ℕ) → i < length cs → list_all is_digit cs ≡ true → is_digit (get_or cs i 0) ≡ true
 digit_in [] i l e = absurd (omega arith)

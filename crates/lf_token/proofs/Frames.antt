@@ -1,4 +1,31 @@
-use Rattle.std.proofs.Common.{◌≡◌, ℕ, ◌+◌, ◌-◌, ◌≤◌, ◌<◌, List, [], ◌∷◌, ◌++◌, length, take, drop, reverse, Bool, true, false, cond, refl, sym, ap, ◌∙◌, arith, zero, suc, count_by}
+use Rattle.std.proofs.Common.{
+  ◌≡◌,
+  ℕ,
+  ◌+◌,
+  ◌-◌,
+  ◌≤◌,
+  ◌<◌,
+  List,
+  [],
+  ◌∷◌,
+  ◌++◌,
+  length,
+  take,
+  drop,
+  reverse,
+  Bool,
+  true,
+  false,
+  cond,
+  refl,
+  sym,
+  ap,
+  ◌∙◌,
+  arith,
+  zero,
+  suc,
+  count_by,
+}
 use Rattle.std.specs.Prelude.{replicate, nat_lt}
 use Rattle.std.specs.List.{prefix_len}
 use Rattle.std.proofs.lemmas.List.{reverse-append, length-drop, length-reverse, take-append-drop}
@@ -69,15 +96,18 @@ viewed tokens frames = record { tokens = tokens; frames = reverse frames }
 pub closed : (tokens tokens' : List Token) (frames frames' : List Frame) (at n : ℕ) → tokens' ≡ tokens ++ replicate n (mark LayoutClose at) →
     frames' ≡ take (length frames - n) frames → n ≤ length frames → viewed tokens' frames' ≡ close at n (viewed tokens frames)
 closed tokens tokens' frames frames' at n e f l =
-    ap (λ ts. viewed ts frames') e ∙ ap (λ (fs : List Frame). let p : Put = record { tokens = tokens ++ replicate n (mark LayoutClose at); frames = fs } in p) (ap reverse f ∙ reverse_truncate frames n l)
+    ap (λ ts. viewed ts frames') e ∙ ap (λ (fs : List Frame). let p : Put = record { tokens = tokens ++ replicate n (mark LayoutClose at); frames = fs } in p)
+    (ap reverse f ∙ reverse_truncate frames n l)
 
 -- behind the blocks above, no block is the innermost
 pub none_above : (fs : List Frame) → prefix_len is_block (drop (prefix_len is_block fs) fs) ≡ 0
 none_above [] = refl
-none_above (Block c ∷ fs) = let e : 1 + prefix_len is_block fs ≡ suc (prefix_len is_block fs) = omega arith in ap (λ (n : ℕ). prefix_len is_block (drop n (Block c ∷ fs))) e ∙ none_above fs
+none_above (Block c ∷ fs) = let e : 1 + prefix_len is_block fs ≡ suc (prefix_len is_block fs) =
+    omega arith in ap (λ (n : ℕ). prefix_len is_block (drop n (Block c ∷ fs))) e ∙ none_above fs
 none_above (Bracket ∷ fs) = refl
 
-pub bracket_left : (put put' : Put) (at : ℕ) → put' ≡ close at (prefix_len is_block put.frames) put → 0 < count_by is_bracket put.frames → nat_lt 0 (count_by is_bracket put'.frames) ≡ true
+pub bracket_left : (put put' : Put) (at : ℕ) → put' ≡ close at (prefix_len is_block put.frames) put → 0 < count_by is_bracket put.frames
+    → nat_lt 0 (count_by is_bracket put'.frames) ≡ true
 bracket_left put put' at e l =
     let same : count_by is_bracket put.frames ≡ count_by is_bracket put'.frames =
     count_drop (prefix_len is_block put.frames) put.frames (omega arith) ∙ ap (λ (p : Put). count_by is_bracket p.frames) (sym e) in

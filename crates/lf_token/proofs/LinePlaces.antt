@@ -1,4 +1,31 @@
-use Rattle.std.proofs.Common.{◌≡◌, ℕ, ◌+◌, ◌-◌, ◌≤◌, List, [], ◌∷◌, ◌++◌, length, take, drop, Bool, true, false, cond, not, ◌==◌, refl, sym, ap, ◌∙◌, arith, zero, suc, count_by}
+use Rattle.std.proofs.Common.{
+  ◌≡◌,
+  ℕ,
+  ◌+◌,
+  ◌-◌,
+  ◌≤◌,
+  List,
+  [],
+  ◌∷◌,
+  ◌++◌,
+  length,
+  take,
+  drop,
+  Bool,
+  true,
+  false,
+  cond,
+  not,
+  ◌==◌,
+  refl,
+  sym,
+  ap,
+  ◌∙◌,
+  arith,
+  zero,
+  suc,
+  count_by,
+}
 use Rattle.std.specs.List.{prefix_len, suffix_len, after_last}
 use Rattle.std.specs.Str.{encode_utf8_all}
 use Rattle.std.specs.Char.{encode_utf8, len_utf8}
@@ -34,7 +61,8 @@ last_goes_on p xs x e =
 -- nothing stands after a separator at the end
 pub last_ends : (p : ℕ → Bool) (xs : List ℕ) (x : ℕ) → p x ≡ true → after_last p (xs ++ x ∷ []) ≡ []
 last_ends p xs x e =
-    let s : suffix_len (λ y. not (p y)) (xs ++ x ∷ []) ≡ 0 = suffix_push (λ y. not (p y)) xs x ∙ if_false (not (p x)) (1 + suffix_len (λ y. not (p y)) xs) 0 (ap not e) in
+    let s : suffix_len (λ y. not (p y)) (xs ++ x ∷ []) ≡ 0 =
+    suffix_push (λ y. not (p y)) xs x ∙ if_false (not (p x)) (1 + suffix_len (λ y. not (p y)) xs) 0 (ap not e) in
     let n : length (xs ++ x ∷ []) - suffix_len (λ y. not (p y)) (xs ++ x ∷ []) ≡ length (xs ++ x ∷ []) = omega arith in
     ap (λ (k : ℕ). drop k (xs ++ x ∷ [])) n ∙ drop_all (xs ++ x ∷ [])
   where
@@ -84,8 +112,10 @@ at_other before place c len e l h = record {
   at = let w : width (before ++ c ∷ []) ≡ width before + len_utf8 c = width_push before c in omega (arith, h.at);
   line = let n : count_by is_line_feed (before ++ c ∷ []) ≡ count_by is_line_feed before + feeds (c ∷ []) = count_append before (c ∷ []) in
       let none : feeds (c ∷ []) ≡ 0 = if_false (is_line_feed c) (1 + 0) 0 e in omega (arith, h.line);
-  column = let n : length (after_last is_line_feed (before ++ c ∷ [])) ≡ length (after_last is_line_feed before ++ c ∷ []) = ap length (last_goes_on is_line_feed before c e) in
-      let len : length (after_last is_line_feed before ++ c ∷ []) ≡ length (after_last is_line_feed before) + 1 = length-append (after_last is_line_feed before) (c ∷ []) in
+  column = let n : length (after_last is_line_feed (before ++ c ∷ [])) ≡ length (after_last is_line_feed before ++ c ∷ []) =
+      ap length (last_goes_on is_line_feed before c e) in
+      let len : length (after_last is_line_feed before ++ c ∷ []) ≡ length (after_last is_line_feed before) + 1 =
+      length-append (after_last is_line_feed before) (c ∷ []) in
       omega (arith, h.column);
 }
 

@@ -1,4 +1,40 @@
-use Rattle.std.proofs.Common.{◌≡◌, ℕ, ◌+◌, ◌-◌, ◌≤◌, ◌<◌, List, [], ◌∷◌, length, take, drop, Bool, true, false, cond, ◌||◌, ◌&&◌, refl, sym, ap, ◌∙◌, subst, arith, zero, suc, ◌⊎◌, inl, inr, ⊎_elim, add-one, Option, Some, None, max}
+use Rattle.std.proofs.Common.{
+  ◌≡◌,
+  ℕ,
+  ◌+◌,
+  ◌-◌,
+  ◌≤◌,
+  ◌<◌,
+  List,
+  [],
+  ◌∷◌,
+  length,
+  take,
+  drop,
+  Bool,
+  true,
+  false,
+  cond,
+  ◌||◌,
+  ◌&&◌,
+  refl,
+  sym,
+  ap,
+  ◌∙◌,
+  subst,
+  arith,
+  zero,
+  suc,
+  ◌⊎◌,
+  inl,
+  inr,
+  ⊎_elim,
+  add-one,
+  Option,
+  Some,
+  None,
+  max,
+}
 use Rattle.std.specs.Prelude.{is_some, unwrap_or}
 use Rattle.std.specs.List.{list_all, prefix_len}
 use Rattle.std.proofs.lemmas.Bool.{cases_lt}
@@ -108,7 +144,8 @@ longest_is test cs n passes longer (suc N) l w =
     (λ (at : N < n). let e : n ≡ suc N = omega arith in
     if_true (test (take (suc N) cs)) (suc N) (longest_up_to test cs N) (subst (λ (k : ℕ). test (take k cs) ≡ true) e (passes (omega arith))) ∙ sym e)
     (λ (below : n ≤ N).
-    if_false (test (take (suc N) cs)) (suc N) (longest_up_to test cs N) (longer (suc N) (omega arith) w) ∙ longest_is test cs n passes longer N below (omega arith))
+    if_false (test (take (suc N) cs)) (suc N) (longest_up_to test cs N) (longer (suc N) (omega arith) w)
+    ∙ longest_is test cs n passes longer N below (omega arith))
     (cases_lt N n)
 
 -- the token of a front whose kind is known, where no longer front has one
@@ -125,7 +162,8 @@ token_is cs n kind some within is longer =
 pub bad_is : (cs : List ℕ) → ((m : ℕ) → 0 < m → m ≤ length cs → kind_of (take m cs) ≡ None) → kind_of [] ≡ None → token_at cs ≡ (Some BadChar, 1)
 bad_is cs longer none =
     let e : longest_token cs ≡ 0 =
-    longest_is (λ front. is_some (kind_of front)) cs 0 (λ l. absurd (omega arith)) (λ m l w. ap is_some (longer m l w)) (length cs) (omega arith) (omega arith) in
+    longest_is (λ front. is_some (kind_of front)) cs 0 (λ l. absurd (omega arith)) (λ m l w. ap is_some (longer m l w)) (length cs) (omega arith)
+    (omega arith) in
     ap (λ (k : ℕ). (Some (unwrap_or (kind_of (take k cs)) BadChar), max k 1)) e
     ∙ ap (λ (o : Option TokenKind). (Some (unwrap_or o BadChar), max 0 1)) none
 

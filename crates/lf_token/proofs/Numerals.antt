@@ -1,4 +1,33 @@
-use Rattle.std.proofs.Common.{◌≡◌, ℕ, ◌+◌, ◌-◌, ◌≤◌, ◌<◌, List, [], ◌∷◌, length, take, drop, Bool, true, false, cond, ◌||◌, ◌&&◌, ◌==◌, not, refl, sym, ap, ◌∙◌, arith, subst, zero, suc}
+use Rattle.std.proofs.Common.{
+  ◌≡◌,
+  ℕ,
+  ◌+◌,
+  ◌-◌,
+  ◌≤◌,
+  ◌<◌,
+  List,
+  [],
+  ◌∷◌,
+  length,
+  take,
+  drop,
+  Bool,
+  true,
+  false,
+  cond,
+  ◌||◌,
+  ◌&&◌,
+  ◌==◌,
+  not,
+  refl,
+  sym,
+  ap,
+  ◌∙◌,
+  arith,
+  subst,
+  zero,
+  suc,
+}
 use Rattle.std.specs.Prelude.{nat_le, nat_lt}
 use Rattle.std.specs.List.{list_all, prefix_len}
 use Rattle.std.proofs.lemmas.Bool.{leb-true, eqb-true, lt-ltb}
@@ -7,7 +36,19 @@ use Rattle.unicode_ident.proofs.IdentLemmas.{is_xid_start-ascii}
 use Rattle.unicode_ident.specs.Ident.{is_xid_start}
 use Rattle.lf_text.specs.Lexemes.{is_digit, is_apart, starts_part, continues_part, is_part, is_numeral, is_bad_numeral}
 use Rattle.lf_token.specs.Scan.{part_len}
-use Rattle.lf_token.proofs.Logic.{and_left, and_right, and_both, and_false, and_false_right, or_false, false_from, take_cons, all_prefix, all_bound, prefix_within}
+use Rattle.lf_token.proofs.Logic.{
+  and_left,
+  and_right,
+  and_both,
+  and_false,
+  and_false_right,
+  or_false,
+  false_from,
+  take_cons,
+  all_prefix,
+  all_bound,
+  prefix_within,
+}
 
 below_false : (a b : ℕ) → b < a → nat_le a b ≡ false
 below_false a b l = false_from (nat_le a b) (λ e. absurd (let h : a ≤ b = leb-true a b e in omega arith))
@@ -32,7 +73,8 @@ no_numeral c cs e = and_false_right (nat_lt 0 (length (c ∷ cs))) (is_digit c &
 
 pub no_bad_numeral : (c : ℕ) (cs : List ℕ) → is_digit c ≡ false → is_bad_numeral (c ∷ cs) ≡ false
 no_bad_numeral c cs e =
-    subst (λ (b : Bool). is_numeral (take (cond b (1 + prefix_len is_digit cs) 0) (c ∷ cs)) && is_part (drop (cond b (1 + prefix_len is_digit cs) 0) (c ∷ cs)) ≡ false)
+    subst (λ (b : Bool). is_numeral (take (cond b (1 + prefix_len is_digit cs) 0) (c ∷ cs)) && is_part (drop (cond b (1 + prefix_len is_digit cs) 0) (c ∷ cs))
+    ≡ false)
     (sym e) refl
 
 abbrev digits : List ℕ → ℕ
@@ -43,7 +85,8 @@ pub numeral_front : (cs : List ℕ) → 0 < digits cs → is_numeral (take (digi
 numeral_front cs l =
     let within : digits cs ≤ length cs = prefix_within is_digit cs in
     let len : length (take (digits cs) cs) ≡ digits cs = length-take-le (digits cs) cs within in
-    and_both (nat_lt 0 (length (take (digits cs) cs))) (list_all is_digit (take (digits cs) cs)) (lt-ltb 0 (length (take (digits cs) cs)) (omega arith)) (all_prefix is_digit cs)
+    and_both (nat_lt 0 (length (take (digits cs) cs))) (list_all is_digit (take (digits cs) cs)) (lt-ltb 0 (length (take (digits cs) cs)) (omega arith))
+    (all_prefix is_digit cs)
 
 pub numeral_longer : (cs : List ℕ) (m : ℕ) → digits cs < m → m ≤ length cs → is_numeral (take m cs) ≡ false
 numeral_longer cs m l w =
@@ -65,12 +108,14 @@ and_first true b e = refl
 and_first false b e = cc
 
 -- a front that has more than the digits is one error token exactly where the rest is a part
-bad_part : (cs : List ℕ) (m : ℕ) → 0 < digits cs → digits cs ≤ m → m ≤ length cs → is_bad_numeral (take m cs) ≡ is_part (take (m - digits cs) (drop (digits cs) cs))
+bad_part : (cs : List ℕ) (m : ℕ) → 0 < digits cs → digits cs ≤ m → m ≤ length cs
+    → is_bad_numeral (take m cs) ≡ is_part (take (m - digits cs) (drop (digits cs) cs))
 bad_part cs m some l w =
     let e : digits (take m cs) ≡ digits cs = prefix_take is_digit cs m l in
     let same : take (digits cs) (take m cs) ≡ take (digits cs) cs = take_take (digits cs) m cs l in
     let rest : drop (digits cs) (take m cs) ≡ take (m - digits cs) (drop (digits cs) cs) =
-    (let a : digits cs + (m - digits cs) ≡ m = omega arith in ap (λ (k : ℕ). drop (digits cs) (take k cs)) (sym a) ∙ drop-take (digits cs) (m - digits cs) cs) in
+    (let a : digits cs + (m - digits cs) ≡ m = omega arith in ap (λ (k : ℕ). drop (digits cs) (take k cs)) (sym a) ∙ drop-take (digits cs) (m - digits cs) cs)
+    in
     ap (λ (k : ℕ). is_numeral (take k (take m cs)) && is_part (drop k (take m cs))) e
     ∙ ap (λ (xs : List ℕ). is_numeral xs && is_part (drop (digits cs) (take m cs))) same
     ∙ and_first (is_numeral (take (digits cs) cs)) (is_part (drop (digits cs) (take m cs))) (numeral_front cs some)

@@ -1,4 +1,35 @@
-use Rattle.std.proofs.Common.{◌≡◌, ℕ, ◌+◌, ◌-◌, ◌^◌, ◌≤◌, ◌<◌, List, [], ◌∷◌, length, get_or, take, drop, Bool, true, false, cond, not, refl, sym, ap, ◌∙◌, arith, subst, zero, suc, Option, Some, None}
+use Rattle.std.proofs.Common.{
+  ◌≡◌,
+  ℕ,
+  ◌+◌,
+  ◌-◌,
+  ◌^◌,
+  ◌≤◌,
+  ◌<◌,
+  List,
+  [],
+  ◌∷◌,
+  length,
+  get_or,
+  take,
+  drop,
+  Bool,
+  true,
+  false,
+  cond,
+  not,
+  refl,
+  sym,
+  ap,
+  ◌∙◌,
+  arith,
+  subst,
+  zero,
+  suc,
+  Option,
+  Some,
+  None,
+}
 use Rattle.std.specs.Prelude.{is_some, nat_lt, nat_eq, codes, unwrap_or, option_map}
 use Rattle.std.specs.List.{prefix_len, starts_with}
 use Rattle.std.proofs.lemmas.Slice.Eq.{bytes_eq-Decides}
@@ -11,7 +42,20 @@ use Rattle.lf_text.specs.declared.token.TokenKind.{TokenKind}
 use Rattle.lf_text.specs.declared.token.TokenKind.TheVariants as kind
 use Rattle.lf_tables.specs.Rows.{value_of}
 use Rattle.lf_text.specs.Words.{symbols}
-use Rattle.lf_text.specs.Lexemes.{name_kind, is_digit, starts_part, is_name, is_numeral, is_bad_numeral, is_white, through, comment_at, piece_at, kind_of, token_at}
+use Rattle.lf_text.specs.Lexemes.{
+  name_kind,
+  is_digit,
+  starts_part,
+  is_name,
+  is_numeral,
+  is_bad_numeral,
+  is_white,
+  through,
+  comment_at,
+  piece_at,
+  kind_of,
+  token_at,
+}
 use Rattle.lf_token.specs.declared.shape.Shape.TheVariants.{Name, Numeral}
 use Rattle.lf_token.specs.Scan.{tail_len, part_len, kind_by}
 use Rattle.lf_token.proofs.Logic.{and_left, and_right, false_from, if_true, if_false, token_is, bad_is, prefix_within}
@@ -46,10 +90,12 @@ number_kind : (f : List ℕ) → is_numeral f ≡ true → behind_symbols f ≡ 
 number_kind f e = if_true (is_numeral f) (Some (numeral_kind f)) (cond (is_bad_numeral f) (Some kind.BadNum) None) e
 
 bad_kind : (f : List ℕ) → is_numeral f ≡ false → is_bad_numeral f ≡ true → behind_symbols f ≡ Some kind.BadNum
-bad_kind f e b = if_false (is_numeral f) (Some (numeral_kind f)) (cond (is_bad_numeral f) (Some kind.BadNum) None) e ∙ if_true (is_bad_numeral f) (Some kind.BadNum) None b
+bad_kind f e b = if_false (is_numeral f) (Some (numeral_kind f)) (cond (is_bad_numeral f) (Some kind.BadNum) None) e
+    ∙ if_true (is_bad_numeral f) (Some kind.BadNum) None b
 
 no_kind : (f : List ℕ) → is_numeral f ≡ false → is_bad_numeral f ≡ false → behind_symbols f ≡ None
-no_kind f e b = if_false (is_numeral f) (Some (numeral_kind f)) (cond (is_bad_numeral f) (Some kind.BadNum) None) e ∙ if_false (is_bad_numeral f) (Some kind.BadNum) None b
+no_kind f e b = if_false (is_numeral f) (Some (numeral_kind f)) (cond (is_bad_numeral f) (Some kind.BadNum) None) e
+    ∙ if_false (is_bad_numeral f) (Some kind.BadNum) None b
 
 not_true : (a : Bool) → not a ≡ true → a ≡ false
 not_true true e = cc
@@ -119,7 +165,8 @@ bad_token c cs e part =
     let within : prefix_len is_digit (c ∷ cs) ≤ length (c ∷ cs) = prefix_within is_digit (c ∷ cs) in
     let rest : part_len (drop (prefix_len is_digit (c ∷ cs)) (c ∷ cs)) ≤ length (drop (prefix_len is_digit (c ∷ cs)) (c ∷ cs)) =
     part_within (drop (prefix_len is_digit (c ∷ cs)) (c ∷ cs)) in
-    let len : length (drop (prefix_len is_digit (c ∷ cs)) (c ∷ cs)) ≡ length (c ∷ cs) - prefix_len is_digit (c ∷ cs) = length-drop (prefix_len is_digit (c ∷ cs)) (c ∷ cs) in
+    let len : length (drop (prefix_len is_digit (c ∷ cs)) (c ∷ cs)) ≡ length (c ∷ cs) - prefix_len is_digit (c ∷ cs) =
+    length-drop (prefix_len is_digit (c ∷ cs)) (c ∷ cs) in
     let all : prefix_len is_digit (c ∷ cs) + part_len (drop (prefix_len is_digit (c ∷ cs)) (c ∷ cs)) ≤ length (c ∷ cs) = omega arith in
     token_is (c ∷ cs) (d + part_len (drop d (c ∷ cs))) kind.BadNum (omega arith) all
     (digit_behind c cs (d + part_len (drop d (c ∷ cs))) e (omega arith)
@@ -171,7 +218,8 @@ pub bad_at : (cs : List ℕ) → 0 < length cs → is_digit (get_or cs 0 0) ≡ 
 bad_at [] l e p = absurd (omega arith)
 bad_at (c ∷ cs) l e p = bad_token c cs e p
 
-pub symbol_at : (cs : List ℕ) (n : ℕ) (k : TokenKind) → 0 < length cs → starts_part (get_or cs 0 0) ≡ false → is_digit (get_or cs 0 0) ≡ false → 0 < n → n ≤ length cs →
+pub symbol_at : (cs : List ℕ) (n : ℕ) (k : TokenKind) → 0 < length cs → starts_part (get_or cs 0 0) ≡ false → is_digit (get_or cs 0 0) ≡ false → 0 < n
+    → n ≤ length cs →
     value_of (encode_utf8_all (take n cs)) symbols ≡ Some k →
     ((m : ℕ) → n < m → m ≤ length cs → is_symbol (take m cs) ≡ false) → token_at cs ≡ (Some k, n)
 symbol_at [] n k l e d some w is longer = absurd (omega arith)
@@ -201,20 +249,23 @@ pub piece_line : (cs : List ℕ) → 0 < length cs → is_white (get_or cs 0 0) 
     piece_at cs ≡ (None, prefix_len (λ x. not (is_line_feed x)) cs)
 piece_line cs l e s =
     piece_black cs l e
-    ∙ if_true (starts_with nat_eq cs (codes "--")) (None, prefix_len (λ x. not (is_line_feed x)) cs) (cond (starts_with nat_eq cs (codes "/-")) (comment_at cs) (token_at cs)) s
+    ∙ if_true (starts_with nat_eq cs (codes "--")) (None, prefix_len (λ x. not (is_line_feed x)) cs)
+    (cond (starts_with nat_eq cs (codes "/-")) (comment_at cs) (token_at cs)) s
 
 pub piece_comment : (cs : List ℕ) → 0 < length cs → is_white (get_or cs 0 0) ≡ false → starts_with nat_eq cs (codes "--") ≡ false →
     starts_with nat_eq cs (codes "/-") ≡ true → piece_at cs ≡ comment_at cs
 piece_comment cs l e s t =
     piece_black cs l e
-    ∙ if_false (starts_with nat_eq cs (codes "--")) (None, prefix_len (λ x. not (is_line_feed x)) cs) (cond (starts_with nat_eq cs (codes "/-")) (comment_at cs) (token_at cs)) s
+    ∙ if_false (starts_with nat_eq cs (codes "--")) (None, prefix_len (λ x. not (is_line_feed x)) cs)
+    (cond (starts_with nat_eq cs (codes "/-")) (comment_at cs) (token_at cs)) s
     ∙ if_true (starts_with nat_eq cs (codes "/-")) (comment_at cs) (token_at cs) t
 
 pub piece_token : (cs : List ℕ) → 0 < length cs → is_white (get_or cs 0 0) ≡ false → starts_with nat_eq cs (codes "--") ≡ false →
     starts_with nat_eq cs (codes "/-") ≡ false → piece_at cs ≡ token_at cs
 piece_token cs l e s t =
     piece_black cs l e
-    ∙ if_false (starts_with nat_eq cs (codes "--")) (None, prefix_len (λ x. not (is_line_feed x)) cs) (cond (starts_with nat_eq cs (codes "/-")) (comment_at cs) (token_at cs)) s
+    ∙ if_false (starts_with nat_eq cs (codes "--")) (None, prefix_len (λ x. not (is_line_feed x)) cs)
+    (cond (starts_with nat_eq cs (codes "/-")) (comment_at cs) (token_at cs)) s
     ∙ if_false (starts_with nat_eq cs (codes "/-")) (comment_at cs) (token_at cs) t
 
 -- a line comment has characters

@@ -7,7 +7,26 @@ use Rattle.lf_text.specs.declared.word.Word.TheVariants.{LayoutOpen, LayoutSep, 
 use Rattle.lf_text.specs.declared.role.Role.{Role}
 use Rattle.lf_text.specs.declared.role.Role.TheVariants.{Command, Where, Closing}
 use Rattle.lf_text.specs.Roles.{is}
-use Rattle.lf_text.specs.Layout.{Put, mark, nothing, close, open_block, part_items, new_line, at_where, close_bracket, at_closing, put_inside, end_command, put_led, blocks, blocks_above, deeper_blocks, has_bracket, is_block_at}
+use Rattle.lf_text.specs.Layout.{
+  Put,
+  mark,
+  nothing,
+  close,
+  open_block,
+  part_items,
+  new_line,
+  at_where,
+  close_bracket,
+  at_closing,
+  put_inside,
+  end_command,
+  put_led,
+  blocks,
+  blocks_above,
+  deeper_blocks,
+  has_bracket,
+  is_block_at,
+}
 
 -- the tokens so far, and then those of a step
 abbrev pub prepend : List Token → Put → Put
@@ -28,25 +47,30 @@ part_after done at column put =
 
 line_after : (done : List Token) (at column : ℕ) (put : Put) → new_line at column (prepend done put) ≡ prepend done (new_line at column put)
 line_after done at column put =
-    ap (part_items at column) (close_after done at (deeper_blocks column put.frames) put) ∙ part_after done at column (close at (deeper_blocks column put.frames) put)
+    ap (part_items at column) (close_after done at (deeper_blocks column put.frames) put)
+    ∙ part_after done at column (close at (deeper_blocks column put.frames) put)
 
-cond_after : (done : List Token) (b : Bool) (x y : Put → Put) (put : Put) → x (prepend done put) ≡ prepend done (x put) → y (prepend done put) ≡ prepend done (y put) →
+cond_after : (done : List Token) (b : Bool) (x y : Put → Put) (put : Put) → x (prepend done put) ≡ prepend done (x put)
+    → y (prepend done put) ≡ prepend done (y put) →
     cond b (x (prepend done put)) (y (prepend done put)) ≡ prepend done (cond b (x put) (y put))
 cond_after done true x y put e f = e
 cond_after done false x y put e f = f
 
 where_after : (done : List Token) (at : ℕ) (role : Role) (put : Put) → at_where at role (prepend done put) ≡ prepend done (at_where at role put)
-where_after done at role put = cond_after done (is Where role) (λ p. close at (blocks_above p.frames) p) (λ p. p) put (close_after done at (blocks_above put.frames) put) refl
+where_after done at role put = cond_after done (is Where role) (λ p. close at (blocks_above p.frames) p) (λ p. p) put
+    (close_after done at (blocks_above put.frames) put) refl
 
 leave_after : (done : List Token) (at : ℕ) (put : Put) → close_bracket at (prepend done put) ≡ prepend done (close_bracket at put)
 leave_after done at put =
-    ap (λ ts. put_of ts (drop 1 (drop (blocks_above put.frames) put.frames))) (append_assoc done put.tokens (replicate (blocks_above put.frames) (mark LayoutClose at)))
+    ap (λ ts. put_of ts (drop 1 (drop (blocks_above put.frames) put.frames)))
+    (append_assoc done put.tokens (replicate (blocks_above put.frames) (mark LayoutClose at)))
 
 closing_after : (done : List Token) (at : ℕ) (role : Role) (put : Put) → at_closing at role (prepend done put) ≡ prepend done (at_closing at role put)
 closing_after done at role put = cond_after done (is Closing role && has_bracket put.frames) (close_bracket at) (λ p. p) put (leave_after done at put) refl
 
 inner_after : (done : List Token) (at column : ℕ) (role : Role) (opens first : Bool) (put : Put) →
-    cond opens (at_where at role (open_block at column (prepend done put))) (cond first (new_line at column (at_where at role (prepend done put))) (at_where at role (prepend done put)))
+    cond opens (at_where at role (open_block at column (prepend done put)))
+    (cond first (new_line at column (at_where at role (prepend done put))) (at_where at role (prepend done put)))
     ≡ prepend done (cond opens (at_where at role (open_block at column put)) (cond first (new_line at column (at_where at role put)) (at_where at role put)))
 inner_after done at column role opens first put =
     cond_after done opens (λ p. at_where at role (open_block at column p)) (λ p. cond first (new_line at column (at_where at role p)) (at_where at role p)) put
@@ -59,7 +83,8 @@ inside_after : (done : List Token) (at column : ℕ) (role : Role) (opens first 
     put_inside at column role opens first (prepend done put) ≡ prepend done (put_inside at column role opens first put)
 inside_after done at column role opens first put =
     ap (at_closing at role) (inner_after done at column role opens first put)
-    ∙ closing_after done at role (cond opens (at_where at role (open_block at column put)) (cond first (new_line at column (at_where at role put)) (at_where at role put)))
+    ∙ closing_after done at role (cond opens (at_where at role (open_block at column put))
+    (cond first (new_line at column (at_where at role put)) (at_where at role put)))
 
 end_after : (done : List Token) (at : ℕ) (put : Put) → end_command at (prepend done put) ≡ prepend done (end_command at put)
 end_after done at put = ap (λ ts. put_of ts []) (append_assoc done put.tokens (replicate (blocks put.frames) (mark LayoutClose at)))

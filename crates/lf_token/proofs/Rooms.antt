@@ -26,5 +26,6 @@ room_of text at end n cs l e s w f =
       within = within;
       from = IsCharBoundary-from_drop text at l (cs, (s, sym e));
       to = IsCharBoundary-from_drop text end within (drop n cs, (scalars_drop n cs s, sym behind));
-      slice = ap (λ (k : ℕ). take k (drop at text)) (let a : end - at ≡ width (take n cs) = omega arith in a) ∙ ap (take (width (take n cs))) e ∙ take_width n cs;
+      slice = ap (λ (k : ℕ). take k (drop at text)) (let a : end - at ≡ width (take n cs) = omega arith in a) ∙ ap (take (width (take n cs))) e
+          ∙ take_width n cs;
     }

@@ -33,7 +33,8 @@ unfolding starts_part unicode_ident
 all_symbols = refl
 
 -- a text that is among those whose characters pass a test passes it
-among_passes : (p : List ℕ → Bool) (texts : List (List ℕ)) (cs : List ℕ) → list_all p texts ≡ true → is_among (map encode_utf8_all texts) (encode_utf8_all cs) ≡ true →
+among_passes : (p : List ℕ → Bool) (texts : List (List ℕ)) (cs : List ℕ) → list_all p texts ≡ true
+    → is_among (map encode_utf8_all texts) (encode_utf8_all cs) ≡ true →
     p cs ≡ true
 among_passes p [] cs all e = absurd (true_false e)
   where

@@ -1,4 +1,38 @@
-use Rattle.std.proofs.Common.{◌≡◌, ℕ, ◌+◌, ◌≤◌, ◌<◌, List, [], ◌∷◌, ◌++◌, length, take, drop, map, get_or, Bool, true, false, cond, ◌||◌, refl, sym, ap, ◌∙◌, arith, subst, zero, suc, max, ⊎_elim, append_assoc, Some, None, Option}
+use Rattle.std.proofs.Common.{
+  ◌≡◌,
+  ℕ,
+  ◌+◌,
+  ◌≤◌,
+  ◌<◌,
+  List,
+  [],
+  ◌∷◌,
+  ◌++◌,
+  length,
+  take,
+  drop,
+  map,
+  get_or,
+  Bool,
+  true,
+  false,
+  cond,
+  ◌||◌,
+  refl,
+  sym,
+  ap,
+  ◌∙◌,
+  arith,
+  subst,
+  zero,
+  suc,
+  max,
+  ⊎_elim,
+  append_assoc,
+  Some,
+  None,
+  Option,
+}
 use Rattle.std.specs.Prelude.{bytes_eq, nat_eq, nat_lt, is_some}
 use Rattle.std.specs.List.{starts_with, list_any}
 use Rattle.std.specs.Str.{encode_utf8_all}
@@ -94,7 +128,8 @@ here r rows bytes e = record {
   value = ap (λ b. cond b (Some r.1) (value_of (take (length r.0) bytes) rows)) e;
 }
 
-later : {V : Type 0} (r : Row V) (rows : List (Row V)) (bytes : List ℕ) (p : ℕ × V) → bytes_eq r.0 (take p.0 bytes) ≡ false → Front rows bytes p → Front (r ∷ rows) bytes p
+later : {V : Type 0} (r : Row V) (rows : List (Row V)) (bytes : List ℕ) (p : ℕ × V) → bytes_eq r.0 (take p.0 bytes) ≡ false → Front rows bytes p
+    → Front (r ∷ rows) bytes p
 later r rows bytes p e f = record { within = f.within; value = ap (λ b. cond b (Some r.1) (value_of (take p.0 bytes) rows)) e ∙ f.value }
 
 longer_key : {V : Type 0} (r : Row V) (bytes : List ℕ) (p : ℕ × V) → p.0 ≤ length bytes → length r.0 < p.0 → bytes_eq r.0 (take p.0 bytes) ≡ false
@@ -107,7 +142,8 @@ abbrev IsFront : {V : Type 0} → List (Row V) → List ℕ → Option (ℕ × V
 IsFront rows bytes None = Unit {0}
 IsFront rows bytes (Some p) = Front rows bytes p
 
-front_step : {V : Type 0} (r : Row V) (rows : List (Row V)) (bytes : List ℕ) (b : Bool) (o : Option (ℕ × V)) → starts_with nat_eq bytes r.0 ≡ b → IsFront rows bytes o →
+front_step : {V : Type 0} (r : Row V) (rows : List (Row V)) (bytes : List ℕ) (b : Bool) (o : Option (ℕ × V)) → starts_with nat_eq bytes r.0 ≡ b
+    → IsFront rows bytes o →
     IsFront (r ∷ rows) bytes (longer (cond b (Some (length r.0, r.1)) None) o)
 front_step r rows bytes false None e f = tt
 front_step r rows bytes false (Some p) e f = later r rows bytes p (no_front r.0 bytes p.0 e) f
@@ -123,7 +159,8 @@ is_front [] bytes = tt
 is_front (r ∷ rows) bytes = front_step r rows bytes (starts_with nat_eq bytes r.0) (longest_of rows bytes) refl (is_front rows bytes)
 
 -- the longest key that stands at the front has the value that is found
-pub longest_value : {V : Type 0} (rows : List (Row V)) (bytes : List ℕ) (n : ℕ) (v : V) → longest_of rows bytes ≡ Some (n, v) → value_of (take n bytes) rows ≡ Some v
+pub longest_value : {V : Type 0} (rows : List (Row V)) (bytes : List ℕ) (n : ℕ) (v : V) → longest_of rows bytes ≡ Some (n, v)
+    → value_of (take n bytes) rows ≡ Some v
 longest_value rows bytes n v e = let f : Front rows bytes (n, v) = subst (λ o. IsFront rows bytes o) e (is_front rows bytes) in f.value
 
 found_step : {V : Type 0} (b : Bool) (v : V) (o : Option V) (rest : Bool) → is_some o ≡ rest → is_some (cond b (Some v) o) ≡ b || rest
@@ -158,9 +195,11 @@ starts_same : (key cs : List ℕ) → starts_with nat_eq (encode_utf8_all cs) (e
 starts_same key cs =
     same_test (starts_with nat_eq (encode_utf8_all cs) (encode_utf8_all key)) (starts_with nat_eq cs key)
     (λ e.
-    let front : encode_utf8_all key ≡ take (length (encode_utf8_all key)) (encode_utf8_all cs) = bytes_same (encode_utf8_all key) (take (length (encode_utf8_all key)) (encode_utf8_all cs)) e in
+    let front : encode_utf8_all key ≡ take (length (encode_utf8_all key)) (encode_utf8_all cs) =
+    bytes_same (encode_utf8_all key) (take (length (encode_utf8_all key)) (encode_utf8_all cs)) e in
     let (ds, same) = begins key cs (drop (length (encode_utf8_all key)) (encode_utf8_all cs))
-    (sym (take-append-drop (length (encode_utf8_all key)) (encode_utf8_all cs)) ∙ ap (λ xs. xs ++ drop (length (encode_utf8_all key)) (encode_utf8_all cs)) (sym front)) in
+    (sym (take-append-drop (length (encode_utf8_all key)) (encode_utf8_all cs))
+    ∙ ap (λ xs. xs ++ drop (length (encode_utf8_all key)) (encode_utf8_all cs)) (sym front)) in
     same_bytes key (take (length key) cs) (sym (ap (take (length key)) same ∙ take-append_seam key ds)))
     (λ e.
     let front : key ≡ take (length key) cs = bytes_same key (take (length key) cs) e in
@@ -247,7 +286,8 @@ longest_within (text ∷ texts) cs =
 
 reach_taken : (key cs : List ℕ) (b : Bool) → starts_with nat_eq cs key ≡ b → 0 < cond b (length key) 0 →
     bytes_eq (encode_utf8_all key) (encode_utf8_all (take (cond b (length key) 0) cs)) ≡ true
-reach_taken key cs true e l = same_bytes (encode_utf8_all key) (encode_utf8_all (take (length key) cs)) (ap encode_utf8_all (bytes_same key (take (length key) cs) e))
+reach_taken key cs true e l = same_bytes (encode_utf8_all key) (encode_utf8_all (take (length key) cs))
+    (ap encode_utf8_all (bytes_same key (take (length key) cs) e))
 reach_taken key cs false e l = absurd (omega arith)
 
 -- it is one of the texts
@@ -300,7 +340,8 @@ pub chars_exact : (cs : List ℕ) (n bytes : ℕ) → n ≤ length cs → ((j : 
     (width (take n cs) < bytes → length cs ≤ n) → (k : ℕ) → k ≤ length cs → bytes ≡ width (take k cs) → n ≡ k
 chars_exact cs n bytes w before stop k v e =
     ⊎_elim
-    (λ (l : n < k). let h : width (take n cs) < width (take k cs) = width_rises_strictly n k cs l v in absurd (let z : length cs ≤ n = stop (omega arith) in omega arith))
+    (λ (l : n < k). let h : width (take n cs) < width (take k cs) =
+    width_rises_strictly n k cs l v in absurd (let z : length cs ≤ n = stop (omega arith) in omega arith))
     (λ (l : k ≤ n). ⊎_elim
     (λ (u : k < n). let h : width (take k cs) < bytes = before k u in absurd (omega arith))
     (λ (u : n ≤ k). let r : n ≡ k = omega arith in r)

@@ -26,12 +26,14 @@ pub record Turn (bytes items rest : List ℕ) (place : Place) (done : ℕ) : Typ
   pub column : place.column ≡ column_of bytes place.at
   pub bounds : Bounds place
 
-pub turn_of : (bytes items ds : List ℕ) (place : Place) (done : ℕ) → IsUtf8 bytes → items ≡ chars bytes → ds ≡ items → done ≤ length items → IsAt (take done items) place →
+pub turn_of : (bytes items ds : List ℕ) (place : Place) (done : ℕ) → IsUtf8 bytes → items ≡ chars bytes → ds ≡ items → done ≤ length items
+    → IsAt (take done items) place →
     Turn bytes items (take (length ds - done) (drop done ds)) place done
 turn_of bytes items ds place done u i d l h =
     let e : encode_utf8_all items ≡ bytes = ap encode_utf8_all i ∙ encodes-chars bytes u in
     let s : all_scalars items ≡ true = ap all_scalars i ∙ scalars-chars bytes u in
-    let rest : take (length ds - done) (drop done ds) ≡ drop done items = ap (λ (xs : List ℕ). take (length xs - done) (drop done xs)) d ∙ slice_end done items in
+    let rest : take (length ds - done) (drop done ds) ≡ drop done items =
+    ap (λ (xs : List ℕ). take (length xs - done) (drop done xs)) d ∙ slice_end done items in
     record {
       rest_is = rest;
       within = let w : width (take done items) ≤ width items = width_within items done l in omega (arith, h.at, ap length e);
@@ -49,7 +51,8 @@ take_sum (suc n) (suc k) [] = ap (λ (m : ℕ). take m []) (let e : suc (n + suc
 take_sum (suc n) k (x ∷ xs) = ap (λ ys. x ∷ ys) (take_sum n k xs) ∙ ap (λ (m : ℕ). take m (x ∷ xs)) (let e : suc (n + k) ≡ suc n + k = omega arith in e)
 
 -- the place behind a piece
-pub next_place : (items rest : List ℕ) (done len : ℕ) (end : Place) → rest ≡ drop done items → IsAt (take done items ++ take len rest) end → IsAt (take (done + len) items) end
+pub next_place : (items rest : List ℕ) (done len : ℕ) (end : Place) → rest ≡ drop done items → IsAt (take done items ++ take len rest) end
+    → IsAt (take (done + len) items) end
 next_place items rest done len end r h =
     subst (λ (xs : List ℕ). IsAt xs end) (ap (λ (xs : List ℕ). take done items ++ take len xs) r ∙ take_sum done len items) h
 
@@ -59,7 +62,8 @@ next_within items rest done len r l w =
     let b : length (drop done items) ≡ length items - done = length-drop done items in omega arith
 
 -- the tokens of the rest are those of the piece and of what is behind it
-pub next_tokens : (items rest : List ℕ) (at end done len : ℕ) → rest ≡ drop done items → 0 < len → len ≤ length rest → len ≡ (piece_at rest).1 → end ≡ at + width (take len rest) →
+pub next_tokens : (items rest : List ℕ) (at end done len : ℕ) → rest ≡ drop done items → 0 < len → len ≤ length rest → len ≡ (piece_at rest).1
+    → end ≡ at + width (take len rest) →
     lexemes_from at 0 (drop done items) ≡ lexeme at (take len rest) (piece_at rest).0 ++ lexemes_from end 0 (drop (done + len) items)
 next_tokens items rest at end done len r some w p e =
     ap (lexemes_from at 0) (sym r) ∙ lexemes_step at len rest some w p
@@ -70,7 +74,8 @@ next_tokens items rest at end done len r some w p e =
 pub first_place : IsAt [] (record { at = 0; line = 1; column = 0 })
 first_place = record { at = refl; line = refl; column = refl }
 
-pub first_tokens : (bytes items : List ℕ) (tokens : List Token) (previous : Token) (frames : List Frame) → items ≡ chars bytes → tokens ≡ [] → frames ≡ [] → previous ≡ mark LayoutClose 0 →
+pub first_tokens : (bytes items : List ℕ) (tokens : List Token) (previous : Token) (frames : List Frame) → items ≡ chars bytes → tokens ≡ [] → frames ≡ []
+    → previous ≡ mark LayoutClose 0 →
     tokens ++ laid_out bytes previous frames (lexemes_from 0 0 items) ≡ tokens_of bytes
 unfolding tokens_of lexemes_of
 first_tokens bytes items tokens previous frames i t f p =

@@ -1,4 +1,35 @@
-use Rattle.std.proofs.Common.{◌≡◌, ℕ, ◌+◌, ◌-◌, ◌≤◌, ◌<◌, List, [], ◌∷◌, ◌++◌, length, take, drop, Bool, true, false, cond, ◌==◌, refl, sym, ap, ◌∙◌, subst, arith, zero, suc, append_assoc, append-nil, count_by, get_or}
+use Rattle.std.proofs.Common.{
+  ◌≡◌,
+  ℕ,
+  ◌+◌,
+  ◌-◌,
+  ◌≤◌,
+  ◌<◌,
+  List,
+  [],
+  ◌∷◌,
+  ◌++◌,
+  length,
+  take,
+  drop,
+  Bool,
+  true,
+  false,
+  cond,
+  ◌==◌,
+  refl,
+  sym,
+  ap,
+  ◌∙◌,
+  subst,
+  arith,
+  zero,
+  suc,
+  append_assoc,
+  append-nil,
+  count_by,
+  get_or,
+}
 use Rattle.std.specs.Str.{encode_utf8_all, all_scalars, chars}
 use Rattle.std.specs.Char.{encode_utf8, len_utf8}
 use Rattle.std.specs.List.{after_last}
@@ -71,7 +102,8 @@ no_feed c e ys zs cut y ws z =
     let all : encode_utf8 c ≡ ys ++ (y ∷ ws) = cut ∙ ap (λ xs. ys ++ xs) z in
     let here : get_or (encode_utf8 c) (length ys) 0 ≡ y = ap (λ xs. get_or xs (length ys) 0) all ∙ at_seam ys y ws in
     let len : length (encode_utf8 c) ≡ length ys + suc (length ws) = ap length all ∙ length-append ys (y ∷ ws) in
-    let same : c ≡ get_or (encode_utf8 c) (length ys) 0 = inside_one c [] (encode_utf8 c) (length ys) (sym (append-nil (encode_utf8 c))) (omega arith) (omega arith) in
+    let same : c ≡ get_or (encode_utf8 c) (length ys) 0 =
+    inside_one c [] (encode_utf8 c) (length ys) (sym (append-nil (encode_utf8 c))) (omega arith) (omega arith) in
     sym e ∙ ap (λ (x : ℕ). x == 10) (same ∙ here ∙ ten))
   where
     at_seam : (xs : List ℕ) (x : ℕ) (vs : List ℕ) → get_or (xs ++ x ∷ vs) (length xs) 0 ≡ x
@@ -117,18 +149,21 @@ encode_push xs c = encodes-append xs (c ∷ []) ∙ ap (λ ys. encode_utf8_all x
 last_push : (xs : List ℕ) (c : ℕ) (b : Bool) → (c == 10) ≡ b → after_last is_line_feed (encode_utf8_all xs) ≡ encode_utf8_all (after_last is_line_feed xs) →
     after_last is_line_feed (encode_utf8_all (xs ++ c ∷ [])) ≡ encode_utf8_all (after_last is_line_feed (xs ++ c ∷ []))
 last_push xs c true e ih =
-    ap (after_last is_line_feed) (encode_push xs c ∙ ap (λ (x : ℕ). encode_utf8_all xs ++ encode_utf8 x) (eqb-true c 10 e) ∙ ap (λ ys. encode_utf8_all xs ++ ys) feed_bytes)
+    ap (after_last is_line_feed) (encode_push xs c ∙ ap (λ (x : ℕ). encode_utf8_all xs ++ encode_utf8 x) (eqb-true c 10 e)
+    ∙ ap (λ ys. encode_utf8_all xs ++ ys) feed_bytes)
     ∙ last_ends is_line_feed (encode_utf8_all xs) 10 refl
     ∙ sym (ap encode_utf8_all (last_ends is_line_feed xs c e))
 last_push xs c false e ih =
     ap (after_last is_line_feed) (encode_push xs c) ∙ last_none c e (encode_utf8_all xs) [] (encode_utf8 c) refl
     ∙ ap (λ ys. ys ++ encode_utf8 c) ih ∙ sym (encode_push (after_last is_line_feed xs) c) ∙ sym (ap encode_utf8_all (last_goes_on is_line_feed xs c e))
 
-last_encode : (cs : List ℕ) (n : ℕ) → n ≤ length cs → after_last is_line_feed (encode_utf8_all (take n cs)) ≡ encode_utf8_all (after_last is_line_feed (take n cs))
+last_encode : (cs : List ℕ) (n : ℕ) → n ≤ length cs
+    → after_last is_line_feed (encode_utf8_all (take n cs)) ≡ encode_utf8_all (after_last is_line_feed (take n cs))
 last_encode cs zero l = refl
 last_encode cs (suc n) l =
     let in_range : n < length cs = omega arith in
-    let e : take (suc n) cs ≡ take n cs ++ get_or cs n 0 ∷ [] = ap (λ (m : ℕ). take m cs) (let a : suc n ≡ n + 1 = omega arith in a) ∙ take_more cs n 0 in_range in
+    let e : take (suc n) cs ≡ take n cs ++ get_or cs n 0 ∷ [] =
+    ap (λ (m : ℕ). take m cs) (let a : suc n ≡ n + 1 = omega arith in a) ∙ take_more cs n 0 in_range in
     subst (λ (xs : List ℕ). after_last is_line_feed (encode_utf8_all xs) ≡ encode_utf8_all (after_last is_line_feed xs)) (sym e)
     (last_push (take n cs) (get_or cs n 0) (get_or cs n 0 == 10) refl (last_encode cs n (omega arith)))
 
@@ -139,7 +174,8 @@ line_is cs n place h =
     (sym (feeds_count (take n cs)) ∙ sym (feeds_encode (take n cs)) ∙ feeds_count (encode_utf8_all (take n cs))
     ∙ ap (count_by is_line_feed) (sym (ap (λ (k : ℕ). take k (encode_utf8_all cs)) h.at ∙ take_width n cs)))
 
-pub column_is : (cs : List ℕ) (n : ℕ) (place : Place) → n ≤ length cs → all_scalars cs ≡ true → IsAt (take n cs) place → place.column ≡ column_of (encode_utf8_all cs) place.at
+pub column_is : (cs : List ℕ) (n : ℕ) (place : Place) → n ≤ length cs → all_scalars cs ≡ true → IsAt (take n cs) place
+    → place.column ≡ column_of (encode_utf8_all cs) place.at
 column_is cs n place l s h =
     h.column
     ∙ ap length (sym (chars-encodes (after_last is_line_feed (take n cs)) (scalars_drop _ (take n cs) (scalars_take n cs s))))

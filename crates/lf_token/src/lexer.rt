@@ -77,7 +77,8 @@ fn put_piece(
     ensures place { IfOk result (λ r. (before : List ℕ) → IsAt before place → IsAt (before ++ take r.0 cs.now) r.1) }
     ensures at { IfOk result (λ r. r.1.at ≡ place.at + width (take r.0 cs.now)) }
     ensures knows { OnOk result (Knows text.now layout.new) }
-    ensures goes { IfOk result (λ r. (r.0 ≡ (piece_at cs.now).1) × ((rest : List Token) → Goes text.now layout.old (lexeme place.at (take r.0 cs.now) (piece_at cs.now).0 ++ rest) layout.new rest)) }
+    ensures goes { IfOk result (λ r. (r.0 ≡ (piece_at cs.now).1)
+        × ((rest : List Token) → Goes text.now layout.old (lexeme place.at (take r.0 cs.now) (piece_at cs.now).0 ++ rest) layout.new rest)) }
 {
     let (shape, len) = shape_at(text, place.at, cs);
     let piece = &cs[..len];

@@ -109,7 +109,22 @@ fn is_block_at(frames: &[Frame], column: usize) -> bool
 }
 
 impl Stack {
-    ghost use Rattle.lf_text.specs.Layout.{Put, nothing, blocks_above, has_bracket, close, open_block, part_items, new_line, at_where, at_closing, put_inside, end_command, put_led, frames_after};
+    ghost use Rattle.lf_text.specs.Layout.{
+      Put,
+      nothing,
+      blocks_above,
+      has_bracket,
+      close,
+      open_block,
+      part_items,
+      new_line,
+      at_where,
+      at_closing,
+      put_inside,
+      end_command,
+      put_led,
+      frames_after,
+    };
 
     /// No tokens, and nothing open.
     pub fn new(alloc: Global) -> Stack

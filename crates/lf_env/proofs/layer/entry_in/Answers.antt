@@ -5,7 +5,8 @@ use Rattle.lf_checker.specs.View.{Entry}
 use Rattle.lf_env.specs.Layer.{has_name}
 use Rattle.lf_env.proofs.layer.entry_in.Goals as goal
 
-passes_step : (p : Entry → Bool) (b : Bool) (e x : Entry) (rest : Option Entry) → p e ≡ b → (Some x ≡ rest → p x ≡ true) → Some x ≡ cond b (Some e) rest → p x ≡ true
+passes_step : (p : Entry → Bool) (b : Bool) (e x : Entry) (rest : Option Entry) → p e ≡ b → (Some x ≡ rest → p x ≡ true) → Some x ≡ cond b (Some e) rest
+    → p x ≡ true
 passes_step p true e x rest h r s = let same : x ≡ e = cc in ap p same ∙ h
 passes_step p false e x rest h r s = r s
 

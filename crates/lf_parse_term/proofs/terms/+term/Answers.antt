@@ -34,7 +34,8 @@ pub element-returns-in_ok-inside-in-LeftParen-clause-told : goal.element-returns
 element-returns-in_ok-inside-in-LeftParen-clause-told t c =
     let w = c.in-Word in
     let g = c.in_ok-inside-in-LeftParen in
-    subst (λ us. maybe operand_rows us ≡ after_maybe (Some g.inside) (views g.rest.now)) (ap (λ v. piece (word v) w.spot ∷ views w.rest.now) (sym c.in-LeftParen.is) ∙ w.ensures.front)
+    subst (λ us. maybe operand_rows us ≡ after_maybe (Some g.inside) (views g.rest.now))
+    (ap (λ v. piece (word v) w.spot ∷ views w.rest.now) (sym c.in-LeftParen.is) ∙ w.ensures.front)
     (group_some (read (symbol.group w.spot.at) (views w.rest.now)) g.inside (views g.rest.now) g.ensures.told)
 
 pub forall_term-returns-clause-told : goal.forall_term-returns-clause-told
@@ -66,12 +67,15 @@ named_close-returns-in_ok-term-in-None-clause-told t c =
     let p = c.in_ok-rest in
     let q = c.in_ok-arrow in
     let inside : applied_all (name_terms c.args.before.items c.args.last []) ≡ c.in_ok-inside-in-None.inside =
-    ap applied_all (ap (name_terms c.args.before.items c.args.last) (sym c.new.ensures.items) ∙ sym c.in_ok-terms-in-None.ensures.terms) ∙ sym c.in_ok-inside-in-None.ensures in
+    ap applied_all (ap (name_terms c.args.before.items c.args.last) (sym c.new.ensures.items) ∙ sym c.in_ok-terms-in-None.ensures.terms)
+    ∙ sym c.in_ok-inside-in-None.ensures in
     close_told c.args.at c.args.before.items c.args.last c.args.ty (views c.args.toks.now) (views p.rest.now) (views q.rest.now)
     p.ensures.told (q.ensures.told ∙ ap (λ o. Ok (o, views q.rest.now)) c.in-None.is) ∙
-    ap (λ (u : TermTree). after (Atom u) (views q.rest.now)) (ap (λ (u : TermTree). paren c.args.at u (some_term c.args.ty)) inside ∙ sym c.in_ok-term-in-None.ensures)
+    ap (λ (u : TermTree). after (Atom u) (views q.rest.now))
+    (ap (λ (u : TermTree). paren c.args.at u (some_term c.args.ty)) inside ∙ sym c.in_ok-term-in-None.ensures)
 
-pub some_lambda_binder-returns-in_ok-implicit-in-Word-LeftBrace-default-default-clause-told : goal.some_lambda_binder-returns-in_ok-implicit-in-Word-LeftBrace-default-default-clause-told
+pub some_lambda_binder-returns-in_ok-implicit-in-Word-LeftBrace-default-default-clause-told :
+    goal.some_lambda_binder-returns-in_ok-implicit-in-Word-LeftBrace-default-default-clause-told
 some_lambda_binder-returns-in_ok-implicit-in-Word-LeftBrace-default-default-clause-told t c =
     let w = c.in-Word-LeftBrace-default-default in
     let a = c.in_ok-first-in-Word-LeftBrace-default-default in
@@ -91,7 +95,9 @@ brace_arrow-returns-clause-told t c =
     ap (λ xs. behind xs (read symbol.binder_names (views a.rest.now))) (sym c.in_ok-one.ensures) ∙ b.ensures.told in
     subst (ToldThen c.arrow_behind.result after_maybe)
     (sym (brace_told c.args.at a.first b.names.items c.in_ok-ty.ty (views c.args.toks.now) (views a.rest.now) (views b.rest.now) (views c.in_ok-rest.rest.now)
-    (views c.in_ok-ty.rest.now) (views c.in_ok-rest-2.rest.now) a.ensures.told names c.in_ok-rest.ensures.told c.in_ok-ty.ensures.told c.in_ok-rest-2.ensures.told ∙
-    ap (λ (xs : List Ident). seq (symbol.arrow_token ∷ symbol.term 0 ∷ []) (views c.in_ok-rest-2.rest.now) (λ _ u. some_lead (arrow c.args.at (binders c.args.at Implicit xs c.in_ok-ty.ty) u)))
+    (views c.in_ok-ty.rest.now) (views c.in_ok-rest-2.rest.now) a.ensures.told names c.in_ok-rest.ensures.told c.in_ok-ty.ensures.told
+    c.in_ok-rest-2.ensures.told ∙
+    ap (λ (xs : List Ident). seq (symbol.arrow_token ∷ symbol.term 0 ∷ []) (views c.in_ok-rest-2.rest.now)
+    (λ _ u. some_lead (arrow c.args.at (binders c.args.at Implicit xs c.in_ok-ty.ty) u)))
     (sym c.in_ok-names-2.ensures)))
     c.arrow_behind.ensures.told

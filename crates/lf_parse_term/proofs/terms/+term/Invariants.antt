@@ -99,7 +99,8 @@ decreases-type_option l = 8 * length l.toks.now
 
 abbrev pub invariant-chain-list : goal.invariant-chain-list
 invariant-chain-list l = record {
-  told : chained l.fn.first (read (symbol.operators l.fn.least operand_level) (views l.fn.toks)) ≡ chained l.left (read (symbol.operators l.least l.level) (views l.rest));
+  told : chained l.fn.first (read (symbol.operators l.fn.least operand_level) (views l.fn.toks))
+      ≡ chained l.left (read (symbol.operators l.least l.level) (views l.rest));
   shorter : length l.rest ≤ length l.fn.toks;
 }
 
@@ -127,7 +128,8 @@ decreases-group_names-list l = length l.rest
 
 abbrev pub invariant-lambda_binders-list : goal.invariant-lambda_binders-list
 invariant-lambda_binders-list l = record {
-  told : behind (map lbinder_tree l.fn.first.items) (read symbol.lambda_binders (views l.fn.toks)) ≡ behind (map lbinder_tree l.all.items) (read symbol.lambda_binders (views l.rest));
+  told : behind (map lbinder_tree l.fn.first.items) (read symbol.lambda_binders (views l.fn.toks))
+      ≡ behind (map lbinder_tree l.all.items) (read symbol.lambda_binders (views l.rest));
   shorter : length l.rest ≤ length l.fn.toks;
 }
 
@@ -145,7 +147,8 @@ decreases-more_items-list l = length l.rest
 
 abbrev pub invariant-more_rules-list : goal.invariant-more_rules-list
 invariant-more_rules-list l = record {
-  told : behind (map rule_tree l.fn.first.items) (read symbol.more_rules (views l.fn.toks)) ≡ behind (map rule_tree l.all.items) (read symbol.more_rules (views l.rest));
+  told : behind (map rule_tree l.fn.first.items) (read symbol.more_rules (views l.fn.toks))
+      ≡ behind (map rule_tree l.all.items) (read symbol.more_rules (views l.rest));
   shorter : length l.rest ≤ length l.fn.toks;
 }
 

@@ -19,7 +19,8 @@ pub returns-in-Err-clause-value : goal.returns-in-Err-clause-value
 returns-in-Err-clause-value g c =
     sym (ap (value_of c.args.key.now) (sym c.self.view_is)
     ∙ missing c.args.key.now c.self.inside.rows.now c.in-Err.field-0
-    (c.in-Err.ensures.position (λ y. y.0) (always_returns_same _ _ _ (λ a r f k. search rules)) (searchable c.self.inside.rows.now c.args.key.now (search rules))))
+    (c.in-Err.ensures.position (λ y. y.0) (always_returns_same _ _ _ (λ a r f k. search rules))
+    (searchable c.self.inside.rows.now c.args.key.now (search rules))))
 
 pub returns-in-Err-clause-written : goal.returns-in-Err-clause-written
 returns-in-Err-clause-written g c = λ v.

@@ -16,7 +16,8 @@ returns-in-None c =
     sym (value_step c.digits.value cs c.digits.c-index c.digits-test.true) ∙ c.digits.invariant.same in
     let grown : next ≤ digits_value_after 10 next (drop (c.digits.c-index + 1) cs) = value_grows next (drop (c.digits.c-index + 1) cs) in
     let wide : 2 ^ 128 ≤ c.digits.value * 10 + c.digit_of.result =
-    ⊎_elim (λ (l : c.digits.value * 10 + c.digit_of.result < 2 ^ 128). absurd (c.in-None.ensures l)) (λ (l : 2 ^ 128 ≤ c.digits.value * 10 + c.digit_of.result). l)
+    ⊎_elim (λ (l : c.digits.value * 10 + c.digit_of.result < 2 ^ 128). absurd (c.in-None.ensures l))
+    (λ (l : 2 ^ 128 ≤ c.digits.value * 10 + c.digit_of.result). l)
     (cases_lt (c.digits.value * 10 + c.digit_of.result) (2 ^ 128)) in
     passes (digits_value 10 cs) (omega arith)
 

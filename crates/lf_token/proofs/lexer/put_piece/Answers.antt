@@ -53,5 +53,6 @@ returns-clause-goes c =
     ap (lexeme at (take n cs)) kind
     ∙ ap (λ (k : ℕ). option_to_list (option_map (λ t. let token : Token = record { at = at; len = k; kind = t } in token) c.kind_by-kind.result)) len in (
       sym (ap (λ (p : Option TokenKind × ℕ). p.1) c.shape_at-shape.ensures.piece),
-      λ rest. ap (λ (ts : List Token). old.stack.tokens ++ laid_out c.args.text.now old.previous old.stack.frames (ts ++ rest)) same ∙ c.in_ok-put_kind.ensures.goes rest,
+      λ rest. ap (λ (ts : List Token). old.stack.tokens ++ laid_out c.args.text.now old.previous old.stack.frames (ts ++ rest)) same
+          ∙ c.in_ok-put_kind.ensures.goes rest,
     )

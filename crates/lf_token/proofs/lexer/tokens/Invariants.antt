@@ -11,7 +11,8 @@ invariant-pieces l = record {
   within : l.done ≤ length l.cs.items;
   place : IsAt (take l.done l.cs.items) l.place;
   knows : Knows l.bytes l.layout;
-  whole : l.layout.stack.tokens ++ laid_out l.bytes l.layout.previous l.layout.stack.frames (lexemes_from l.place.at 0 (drop l.done l.cs.items)) ≡ tokens_of l.bytes;
+  whole : l.layout.stack.tokens ++ laid_out l.bytes l.layout.previous l.layout.stack.frames (lexemes_from l.place.at 0 (drop l.done l.cs.items))
+      ≡ tokens_of l.bytes;
 }
 
 abbrev pub decreases-pieces : goal.decreases-pieces

@@ -16,10 +16,12 @@ characters-preserved c =
     record {
       place = λ before h.
           subst (λ (xs : List ℕ). IsAt xs c.past_one-end.result)
-          (append_assoc before (take i cs) (c.c-item.result ∷ []) ∙ ap (λ (xs : List ℕ). before ++ xs) (ap (λ (x : ℕ). take i cs ++ x ∷ []) item ∙ sym (take_more cs i 0 c.characters-test.true)))
+          (append_assoc before (take i cs) (c.c-item.result ∷ [])
+          ∙ ap (λ (xs : List ℕ). before ++ xs) (ap (λ (x : ℕ). take i cs ++ x ∷ []) item ∙ sym (take_more cs i 0 c.characters-test.true)))
           (c.past_one-end.ensures.place (before ++ take i cs) (c.characters.invariant.place before h));
       width = let step : width (take (i + 1) cs) ≡ width (take i cs) + len_utf8 (get_or cs i 0) = width_step cs i c.characters-test.true in
-          let len : len_utf8 c.c-item.result ≡ len_utf8 (get_or cs i 0) = ap len_utf8 item in omega (arith, c.past_one-end.ensures.at, c.characters.invariant.width);
+          let len : len_utf8 c.c-item.result ≡ len_utf8 (get_or cs i 0) =
+          ap len_utf8 item in omega (arith, c.past_one-end.ensures.at, c.characters.invariant.width);
       at = omega arith;
       line = omega arith;
       column = omega arith;
@@ -27,7 +29,9 @@ characters-preserved c =
 
 pub returns-clause-place : goal.returns-clause-place
 returns-clause-place c = λ before h.
-    subst (λ (xs : List ℕ). IsAt (before ++ xs) c.characters.end) (take_whole c.characters.c-index c.args.cs.now c.characters-test.false) (c.characters.invariant.place before h)
+    subst (λ (xs : List ℕ). IsAt (before ++ xs) c.characters.end) (take_whole c.characters.c-index c.args.cs.now c.characters-test.false)
+    (c.characters.invariant.place before h)
 
 pub returns-clause-at : goal.returns-clause-at
-returns-clause-at c = c.characters.invariant.width ∙ ap (λ (xs : List ℕ). c.args.place.at + width xs) (take_whole c.characters.c-index c.args.cs.now c.characters-test.false)
+returns-clause-at c = c.characters.invariant.width
+    ∙ ap (λ (xs : List ℕ). c.args.place.at + width xs) (take_whole c.characters.c-index c.args.cs.now c.characters-test.false)

@@ -22,4 +22,5 @@ characters-preserved c =
 
 pub returns-after-characters : goal.returns-after-characters
 returns-after-characters c =
-    chars_exact c.args.cs.now c.characters.n c.args.bytes c.characters.invariant.within c.characters.invariant.before (λ l. omega (arith, c.characters.invariant.passed))
+    chars_exact c.args.cs.now c.characters.n c.args.bytes c.characters.invariant.within c.characters.invariant.before
+    (λ l. omega (arith, c.characters.invariant.passed))

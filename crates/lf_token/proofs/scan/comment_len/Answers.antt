@@ -6,7 +6,8 @@ pub characters-preserved-then-opens_comment : goal.characters-preserved-then-ope
 characters-preserved-then-opens_comment c = record {
   within = omega arith;
   depth = omega arith;
-  same = still_opens c.args.cs.now c.characters.n c.characters.depth c.characters-test.true (sym c.opens_comment.ensures ∙ c.if-opens_comment.true) c.characters.invariant.same;
+  same = still_opens c.args.cs.now c.characters.n c.characters.depth c.characters-test.true (sym c.opens_comment.ensures ∙ c.if-opens_comment.true)
+      c.characters.invariant.same;
 }
 
 pub characters-preserved-then-closes_comment : goal.characters-preserved-then-closes_comment

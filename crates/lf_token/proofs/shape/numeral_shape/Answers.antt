@@ -25,8 +25,10 @@ pub returns-else-part-eq0-clause-token : goal.returns-else-part-eq0-clause-token
 returns-else-part-eq0-clause-token c =
     let cs = c.args.cs.now in
     let part : c.part_len-part.result ≡ part_len (drop (prefix_len is_digit cs) cs) =
-    c.part_len-part.ensures.value ∙ ap part_len (slice_end c.digits_len-digits.result cs) ∙ ap (λ (n : ℕ). part_len (drop n cs)) c.digits_len-digits.ensures.value in
+    c.part_len-part.ensures.value ∙ ap part_len (slice_end c.digits_len-digits.result cs)
+    ∙ ap (λ (n : ℕ). part_len (drop n cs)) c.digits_len-digits.ensures.value in
     let some : 0 < part_len (drop (prefix_len is_digit cs) cs) = omega arith in
     bad_at cs c.requires.some c.requires.digit some
     ∙ ap (λ (n : ℕ). (Some kind.BadNum, n))
-    (let e : prefix_len is_digit cs + part_len (drop (prefix_len is_digit cs) cs) ≡ c.digits_len-digits.result + c.part_len-part.result = omega (arith, c.digits_len-digits.ensures.value) in e)
+    (let e : prefix_len is_digit cs + part_len (drop (prefix_len is_digit cs) cs) ≡ c.digits_len-digits.result + c.part_len-part.result =
+    omega (arith, c.digits_len-digits.ensures.value) in e)

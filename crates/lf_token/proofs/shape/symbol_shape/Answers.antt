@@ -54,7 +54,8 @@ found cs rest bytes k e f =
 pub chars_in-requires : goal.chars_in-requires
 chars_in-requires c =
     let cs = c.args.cs.now in
-    let f : Found cs c.in-Some.bytes c.in-Some.kind = found cs (drop c.args.at c.args.text.now) c.in-Some.bytes c.in-Some.kind c.requires.spelled (sym c.in-Some.ensures) in
+    let f : Found cs c.in-Some.bytes c.in-Some.kind =
+    found cs (drop c.args.at c.args.text.now) c.in-Some.bytes c.in-Some.kind c.requires.spelled (sym c.in-Some.ensures) in
     let w : width (take (longest_in symbol_texts cs) cs) ≤ width cs = width_within cs (longest_in symbol_texts cs) (longest_within symbol_texts cs) in
     let l : length (drop c.args.at c.args.text.now) ≡ width cs = ap length c.requires.spelled in
     omega (arith, f.width_is, length-drop c.args.at c.args.text.now)
@@ -62,7 +63,8 @@ chars_in-requires c =
 pub returns-in-None-clause-token : goal.returns-in-None-clause-token
 returns-in-None-clause-token c =
     let cs = c.args.cs.now in
-    let e : 0 ≡ width (take (longest_in symbol_texts cs) cs) = ap (λ o. length_of o) c.in-None.ensures ∙ symbol_width cs (drop c.args.at c.args.text.now) c.requires.spelled in
+    let e : 0 ≡ width (take (longest_in symbol_texts cs) cs) =
+    ap (λ o. length_of o) c.in-None.ensures ∙ symbol_width cs (drop c.args.at c.args.text.now) c.requires.spelled in
     let none : longest_in symbol_texts cs ≡ 0 = empty cs (longest_in symbol_texts cs) (longest_within symbol_texts cs) e in
     bad_char_at cs c.requires.some c.requires.no_part c.requires.no_digit (λ m l w. symbol_among (take m cs) ∙ longest_passed symbol_texts cs m (omega arith) w)
 
@@ -70,7 +72,8 @@ pub returns-in-Some : goal.returns-in-Some
 returns-in-Some c =
     let cs = c.args.cs.now in
     let n : ℕ = longest_in symbol_texts cs in
-    let f : Found cs c.in-Some.bytes c.in-Some.kind = found cs (drop c.args.at c.args.text.now) c.in-Some.bytes c.in-Some.kind c.requires.spelled (sym c.in-Some.ensures) in
+    let f : Found cs c.in-Some.bytes c.in-Some.kind =
+    found cs (drop c.args.at c.args.text.now) c.in-Some.bytes c.in-Some.kind c.requires.spelled (sym c.in-Some.ensures) in
     let within : longest_in symbol_texts cs ≤ length cs = longest_within symbol_texts cs in
     let exact : c.chars_in.result ≡ longest_in symbol_texts cs = c.chars_in.ensures n within f.width_is in
     record {

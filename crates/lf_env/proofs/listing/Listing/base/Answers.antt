@@ -8,4 +8,5 @@ pub invariant_of-result : goal.invariant_of-result
 invariant_of-result c =
     let all : entries_of c.in_ok-layers.layers.items ≡ base_entries c.args.base.items =
     ap entries_of c.in_ok-layers.ensures ∙ append-nil (base_entries c.args.base.items) in
-    base_sound c.args.base.items (entries_of c.in_ok-layers.layers.items) c.len-most.result c.requires all (omega (arith, c.len-most.ensures, c.args.base.ok)) c.len-most.type_inv
+    base_sound c.args.base.items (entries_of c.in_ok-layers.layers.items) c.len-most.result c.requires all (omega (arith, c.len-most.ensures, c.args.base.ok))
+    c.len-most.type_inv

@@ -21,5 +21,6 @@ invariant_of-result c =
     let free : find_entry es e.info.name ≡ None = ap (λ l. find_entry l e.info.name) c.self.view_is ∙ c.requires in
     let all : entries_of c.in_ok-layers.layers.items ≡ es ++ e ∷ [] =
     c.in_ok-layers.ensures ∙ ap (λ l. entries_of l ++ e ∷ []) c.as_slice.ensures.value in
-    push_sound es (entries_of c.in_ok-layers.layers.items) e c.self.inside.most (c.self.inside.most + 1) c.self.invariant (sym (unplaced 0 es e.info.name free)) all refl
+    push_sound es (entries_of c.in_ok-layers.layers.items) e c.self.inside.most (c.self.inside.most + 1) c.self.invariant
+    (sym (unplaced 0 es e.info.name free)) all refl
     (omega (arith, c.self.invariant.fits, c.if-most.false))

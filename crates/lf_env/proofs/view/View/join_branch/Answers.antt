@@ -29,7 +29,8 @@ invariant_of-self c =
     let v = c.self.inside in
     let joined = c.in_ok-joined.ensures ∙ ap (λ e. v.joined ++ e ∷ []) c.in_ok-header-in-Some.ensures in (
       subst (λ l. AreBacked l v.opened) (sym joined)
-          (joined_backed v.entries v.joined v.opened v.realized v.failed v.position v.for_base c.args.self.now c.self.view_is c.self.invariant.0 c.self.invariant.1
+          (joined_backed v.entries v.joined v.opened v.realized v.failed v.position v.for_base c.args.self.now c.self.view_is c.self.invariant.0
+          c.self.invariant.1
           c.args.position c.args.infos.items c.pop.new.self.items c.in-Some.info c.requires c.in-Some.ensures.items),
       subst (λ l. AreBacked v.opened l) (sym c.in_ok-entries.ensures)
           (backed_grown v.opened v.entries (entries_at c.args.position c.pop.new.self.items) c.self.invariant.1),

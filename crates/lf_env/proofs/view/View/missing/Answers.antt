@@ -41,6 +41,8 @@ returns-in_default-of c =
     let over : None ≡ branch_over V.branches n = sym c.in_default.is ∙ c.branch_over.ensures in
     let last : c.as_str.result.now ≡ last_of n = c.as_str.ensures ∙ c.last-item.is ∙ last_of-place n c.last-item.result c.in-len1-up.len_at_least in
     elim c.in_default-of.branch [
-      | in_default-of-via-in-Some-of+else-not-self w ↦ in_base V n (suffix_of (last_of n)) (ap (λ s. s.for_base) (sym c.self.view_is) ∙ w.if-not-self.false) ∙ ap (by_branch V n) over
-      | in_default-of-via-in_default-of w ↦ let ends : None ≡ suffix_of (last_of n) = sym w.in_default-of.is ∙ c.of.ensures.exact ∙ ap suffix_of last in ap (by_suffix V n) ends ∙ ap (by_branch V n) over
+      | in_default-of-via-in-Some-of+else-not-self w ↦
+          in_base V n (suffix_of (last_of n)) (ap (λ s. s.for_base) (sym c.self.view_is) ∙ w.if-not-self.false) ∙ ap (by_branch V n) over
+      | in_default-of-via-in_default-of w ↦ let ends : None ≡ suffix_of (last_of n) =
+          sym w.in_default-of.is ∙ c.of.ensures.exact ∙ ap suffix_of last in ap (by_suffix V n) ends ∙ ap (by_branch V n) over
     ]

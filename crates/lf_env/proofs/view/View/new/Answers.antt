@@ -11,4 +11,5 @@ returns c =
     ∙ ap (λ x. shown c.in_ok-entries.entries [] [] x c.empty-4.result 0 false) c.empty-3.ensures
     ∙ ap (λ x. shown c.in_ok-entries.entries [] [] [] x 0 false) c.empty-4.ensures
     ∙ ap (λ x. shown x [] [] [] [] 0 false) c.in_ok-entries.ensures
-    ∙ ap (λ x. record { entries = x; branches = []; realized = []; failed = []; position = 0; for_base = false }) (settled_none (base_entries c.args.base.items))
+    ∙ ap (λ x. record { entries = x; branches = []; realized = []; failed = []; position = 0; for_base = false })
+    (settled_none (base_entries c.args.base.items))

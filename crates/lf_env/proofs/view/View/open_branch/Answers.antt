@@ -24,7 +24,8 @@ place_is k [] n e p h q = cc
 place_is k (d ∷ es) n e p h q = place_step (same_path d.info.name n) d e k p (find_entry es n) (placed_from (suc k) es n) (place_is (suc k) es n e p) h q
 
 -- The header's entry stands at the position.
-header_position : (es js : List Entry) (V : View) (n : Path) (p : ℕ) (e : Entry) → HasEntryAt V n p → V.entries ≡ map (settled js) es → find_entry es n ≡ Some e → e.position ≡ p
+header_position : (es js : List Entry) (V : View) (n : Path) (p : ℕ) (e : Entry) → HasEntryAt V n p → V.entries ≡ map (settled js) es
+    → find_entry es n ≡ Some e → e.position ≡ p
 header_position es js V n p e has v h =
     place_is 0 es n e p h (subst (λ o. IsSomeAnd o (λ d. d.0 ≡ p)) (ap (λ l. placed_from 0 l n) v ∙ placed_settled js 0 es n) has)
 
@@ -35,7 +36,8 @@ with-requires c =
     let unopened : find_entry v.opened c.args.prefix ≡ None =
     ap (find_entry v.opened) (sym c.parts.ensures.parts) ∙ sym c.find.ensures ∙ not_some c.find.result (sym c.is_some.ensures ∙ c.if-is_some.false) in
     let stored : find_entry v.entries c.args.prefix ≡ Some e =
-    ap (find_entry v.entries) (sym c.parts-2.ensures.parts) ∙ sym c.find-2.ensures ∙ ap option_copied c.in-Some.is ∙ ap Some (sym c.in_ok-header-in-Some.ensures) in
+    ap (find_entry v.entries) (sym c.parts-2.ensures.parts) ∙ sym c.find-2.ensures ∙ ap option_copied c.in-Some.is
+    ∙ ap Some (sym c.in_ok-header-in-Some.ensures) in
     ap (find_entry v.opened) (found_named v.entries c.args.prefix e stored) ∙ unopened
 
 pub invariant_of-self : goal.invariant_of-self
@@ -43,7 +45,8 @@ invariant_of-self c =
     let v = c.self.inside in
     let e = c.in_ok-header-in-Some.header in
     let stored : find_entry v.entries c.args.prefix ≡ Some e =
-    ap (find_entry v.entries) (sym c.parts-2.ensures.parts) ∙ sym c.find-2.ensures ∙ ap option_copied c.in-Some.is ∙ ap Some (sym c.in_ok-header-in-Some.ensures) in
+    ap (find_entry v.entries) (sym c.parts-2.ensures.parts) ∙ sym c.find-2.ensures ∙ ap option_copied c.in-Some.is
+    ∙ ap Some (sym c.in_ok-header-in-Some.ensures) in
     let own : find_entry v.entries e.info.name ≡ Some e = ap (find_entry v.entries) (found_named v.entries c.args.prefix e stored) ∙ stored in (
       subst (λ l. AreBacked v.joined l) (sym c.in_ok-opened.ensures) (backed_grown v.joined v.opened (e ∷ []) c.self.invariant.0),
       subst (λ l. AreBacked l v.entries) (sym c.in_ok-opened.ensures) (backed_one v.opened v.entries e e c.self.invariant.1 own refl),
@@ -57,7 +60,8 @@ returns-clause-ok c =
     let unopened : find_entry v.opened n ≡ None =
     ap (find_entry v.opened) (sym c.parts.ensures.parts) ∙ sym c.find.ensures ∙ not_some c.find.result (sym c.is_some.ensures ∙ c.if-is_some.false) in
     let stored : find_entry v.entries n ≡ Some e =
-    ap (find_entry v.entries) (sym c.parts-2.ensures.parts) ∙ sym c.find-2.ensures ∙ ap option_copied c.in-Some.is ∙ ap Some (sym c.in_ok-header-in-Some.ensures) in
+    ap (find_entry v.entries) (sym c.parts-2.ensures.parts) ∙ sym c.find-2.ensures ∙ ap option_copied c.in-Some.is
+    ∙ ap Some (sym c.in_ok-header-in-Some.ensures) in
     let named : e.info.name ≡ n = found_named v.entries n e stored in
     let unjoined : find_entry v.joined e.info.name ≡ None = ap (find_entry v.joined) named ∙ not_backed v.joined v.opened c.self.invariant.0 n unopened in
     let placed : e.position ≡ c.args.position =

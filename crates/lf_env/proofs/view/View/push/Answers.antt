@@ -14,8 +14,11 @@ with-requires c =
 
 pub invariant_of-self : goal.invariant_of-self
 invariant_of-self c =
-    let v = c.self.inside in
-    (c.self.invariant.0, subst (λ l. AreBacked v.opened l) (sym c.in_ok-entries.ensures) (backed_grown v.opened v.entries (c.in_ok-entry.entry ∷ []) c.self.invariant.1))
+    let v = c.self.inside in (
+      c.self.invariant.0,
+      subst (λ l. AreBacked v.opened l) (sym c.in_ok-entries.ensures)
+          (backed_grown v.opened v.entries (c.in_ok-entry.entry ∷ []) c.self.invariant.1),
+    )
 
 pub returns-clause-ok : goal.returns-clause-ok
 returns-clause-ok c =
@@ -25,7 +28,10 @@ returns-clause-ok c =
     let free : placed_from 0 v.entries c.args.info.name ≡ None =
     sym (placed_settled v.joined 0 v.entries c.args.info.name) ∙ ap (λ s. placed_of s c.args.info.name) c.self.view_is ∙ c.requires in
     let unknown : find_entry v.joined c.args.info.name ≡ None =
-    not_backed v.joined v.entries (backed_through v.joined v.opened v.entries c.self.invariant.0 c.self.invariant.1) c.args.info.name (unfound 0 v.entries c.args.info.name free) in
-    ap (λ l. shown l v.joined v.opened v.realized v.failed v.position v.for_base) (c.in_ok-entries.ensures ∙ ap (λ x. v.entries ++ x ∷ []) c.in_ok-entry.ensures)
-    ∙ ap (λ l. record (shown v.entries v.joined v.opened v.realized v.failed v.position v.for_base) { entries = l }) (settled_more v.joined v.entries (e ∷ []) (unknown, tt))
+    not_backed v.joined v.entries (backed_through v.joined v.opened v.entries c.self.invariant.0 c.self.invariant.1) c.args.info.name
+    (unfound 0 v.entries c.args.info.name free) in
+    ap (λ l. shown l v.joined v.opened v.realized v.failed v.position v.for_base)
+    (c.in_ok-entries.ensures ∙ ap (λ x. v.entries ++ x ∷ []) c.in_ok-entry.ensures)
+    ∙ ap (λ l. record (shown v.entries v.joined v.opened v.realized v.failed v.position v.for_base) { entries = l })
+    (settled_more v.joined v.entries (e ∷ []) (unknown, tt))
     ∙ ap (λ s. pushed s c.args.info c.args.position) c.self.view_is

@@ -2,7 +2,44 @@ use Rattle.std.proofs.Common.{◌≡◌, ◌∙◌, refl, ap, sym, ℕ, List, []
 use Rattle.std.specs.Char.{encode_utf8}
 use Rattle.lf_print.specs.Mark.{mark_text}
 use Rattle.lf_print.specs.declared.mark.Mark.{Mark}
-use Rattle.lf_print.specs.declared.mark.Mark.TheVariants.{OpenParen, CloseParen, OpenBrace, CloseBrace, OpenBracket, CloseBracket, Space, Dot, Hole, Colon, Comma, Arrow, ForAll, Fun, Maps, LetIn, Assign, Then, Prop, TypeZero, TypeOf, SortOf, Plus, Max, Imax, Not, Iff, Or, And, Eq, Ne, Sub, Mul, Div, Mod, Cut}
+use Rattle.lf_print.specs.declared.mark.Mark.TheVariants.{
+  OpenParen,
+  CloseParen,
+  OpenBrace,
+  CloseBrace,
+  OpenBracket,
+  CloseBracket,
+  Space,
+  Dot,
+  Hole,
+  Colon,
+  Comma,
+  Arrow,
+  ForAll,
+  Fun,
+  Maps,
+  LetIn,
+  Assign,
+  Then,
+  Prop,
+  TypeZero,
+  TypeOf,
+  SortOf,
+  Plus,
+  Max,
+  Imax,
+  Not,
+  Iff,
+  Or,
+  And,
+  Eq,
+  Ne,
+  Sub,
+  Mul,
+  Div,
+  Mod,
+  Cut,
+}
 use Rattle.lf_print.proofs.mark.Mark.text.Goals as goal
 
 is_OpenParen : (m : Mark) → m ≡ OpenParen → (40 ∷ []) ≡ mark_text m

@@ -17,7 +17,8 @@ returns-clause-puts c =
     let first : nat_lt old.line c.args.place.line ≡ is_first text old.previous t =
     ap (λ (n : ℕ). nat_lt n c.args.place.line) c.requires.knows.line ∙ ap (nat_lt (line_of text old.previous.at)) c.requires.line in
     let block : c.opens_block-opens.result ≡ opens_block (role_of old.previous.kind) role =
-    c.opens_block-opens.ensures ∙ ap (λ r. opens_block r c.role-role.result) c.requires.knows.role ∙ ap (opens_block (role_of old.previous.kind)) c.role-role.ensures in
+    c.opens_block-opens.ensures ∙ ap (λ r. opens_block r c.role-role.result) c.requires.knows.role
+    ∙ ap (opens_block (role_of old.previous.kind)) c.role-role.ensures in
     let led : c.lead.new.self ≡ put_led t.at (column_of text t.at) end role opens (is_first text old.previous t) old.stack =
     c.in_ok-lead.ensures
     ∙ ap (λ r. put_led c.args.place.at c.args.place.column end r c.opens_block-opens.result (nat_lt old.line c.args.place.line) old.stack) c.role-role.ensures

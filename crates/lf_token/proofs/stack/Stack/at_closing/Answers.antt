@@ -9,4 +9,5 @@ drop_bracket-requires-clause-top c = top_left c.args.self.now c.close_above.new.
 pub drop_bracket-requires-clause-bracket : goal.drop_bracket-requires-clause-bracket
 drop_bracket-requires-clause-bracket c =
     let some : 0 < count_by is_bracket (reverse c.self.inside.frames.items) = omega (arith, c.self.invariant, c.if-self-eq0.false) in
-    bracket_left c.args.self.now c.close_above.new.self c.args.at c.in_ok-close_above.ensures (subst (λ (p : Put). 0 < count_by is_bracket p.frames) c.self.view_is some)
+    bracket_left c.args.self.now c.close_above.new.self c.args.at c.in_ok-close_above.ensures
+    (subst (λ (p : Put). 0 < count_by is_bracket p.frames) c.self.view_is some)
