@@ -29,8 +29,9 @@ pub struct CheckCx<'a, P: Stop> {
     pub stop: &'a mut P,
 }
 
-// What is told of the end of a call that has no value.
-fn ended<T>(opened: &mut Vec<Name>, units: &mut u64, halt: Halt, left: u64) -> Ans<T, TypeFault>
+/// What is told of the end of a call that has no value: the refusal with the units that are left and the opened names, or
+/// else what it came to, with no units.
+pub fn ended<T>(opened: &mut Vec<Name>, units: &mut u64, halt: Halt, left: u64) -> Ans<T, TypeFault>
     requires opened { opened.old.items ≡ [] }
     requires units { units.old ≡ 0 }
     ensures { Ended halt left result units.new opened.new.items }

@@ -25,7 +25,7 @@ use lf_base::Stop;
 use lf_core::{Expr, Name};
 use lf_steps::{Halt, Verdict, arguments, attempt, enter, head, is_prop, opening, out};
 
-/// Whether two terms are equal.
+/// Whether two terms are equal, within a run.
 #[cycle(check)]
 #[tactic(auto, using(crate::proofs::Towers::equal_start))]
 pub fn equal<P: Stop>(

@@ -28,7 +28,7 @@ use lf_checker::TypeFault;
 use lf_core::{Binder, Expr, ExprNode, Level, Name};
 use lf_steps::{Halt, abstracted, enter, instance, opening, put, refusal, under};
 
-/// The type of a term.
+/// The type of a term, within a run: the units go down by what is spent, and a refusal has the names opened so far.
 #[cycle(check)]
 #[tactic(auto, using(crate::proofs::Nest::at_infer))]
 pub fn infer<P: Stop>(
@@ -166,7 +166,7 @@ pub fn fits<P: Stop>(
     }
 }
 
-// The level of the sort of a type.
+/// The level of the sort of a type, within a run.
 #[cycle(check)]
 #[tactic(auto, using(lf_steps::proofs::Runs::halts, crate::proofs::Judging::sort_is))]
 pub fn sort_of<P: Stop>(

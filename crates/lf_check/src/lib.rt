@@ -14,4 +14,8 @@ mod step;
 mod turn;
 mod typing;
 
-pub use calls::{CheckCx, equal, infer, infer_unchecked, nf, whnf};
+pub use calls::{CheckCx, ended, equal, infer, infer_unchecked, nf, whnf};
+pub use compare::equal as equal_within;
+pub use cx::{Cx, close, open};
+pub use judge::{infer as infer_within, sort_of};
+pub use mode::Mode;
