@@ -114,44 +114,68 @@ fn alternatives(alloc: Global) -> Result<Shared<Alternative>, NoMemory> {
     Shared::of(alloc, all)
 }
 
-fn commands(alloc: Global) -> Result<Vec<Command>, NoMemory> {
-    let mut all = Vec::new(alloc);
-    all.push(Command::Axiom(decl(alloc)?))?;
+fn definition(alloc: Global) -> Result<Command, NoMemory> {
     let helpers = helpers(alloc)?;
-    all.push(Command::Def {
-        decl: decl(alloc)?,
-        value: proof(alloc)?,
+    let value = proof(alloc)?;
+    let decl = decl(alloc)?;
+    Ok(Command::Def {
+        decl,
+        value,
         helpers,
-    })?;
+    })
+}
+
+fn inductive(alloc: Global) -> Result<Command, NoMemory> {
     let ctors = ctors(alloc)?;
-    all.push(Command::Inductive {
-        decl: decl(alloc)?,
-        ctors,
-    })?;
+    let decl = decl(alloc)?;
+    Ok(Command::Inductive { decl, ctors })
+}
+
+fn class(alloc: Global) -> Result<Command, NoMemory> {
     let fields = fields(alloc)?;
-    all.push(Command::Class {
-        decl: decl(alloc)?,
-        fields,
-    })?;
+    let decl = decl(alloc)?;
+    Ok(Command::Class { decl, fields })
+}
+
+fn equations(alloc: Global) -> Result<Command, NoMemory> {
     let alternatives = alternatives(alloc)?;
-    all.push(Command::Equations {
-        decl: decl(alloc)?,
-        alternatives,
-    })?;
+    let decl = decl(alloc)?;
+    Ok(Command::Equations { decl, alternatives })
+}
+
+fn open_names(alloc: Global) -> Result<Command, NoMemory> {
     let names = idents(alloc)?;
-    all.push(Command::OpenNames { at: 1, names })?;
-    all.push(Command::End { at: 2, name: None })?;
+    Ok(Command::OpenNames { at: 1, names })
+}
+
+fn check(alloc: Global) -> Result<Command, NoMemory> {
     let term = proof(alloc)?;
-    all.push(Command::Check { at: 3, term })?;
-    let fault = SyntaxFault::Deep;
-    all.push(Command::Bad { at: 4, fault })?;
-    Ok(all)
+    Ok(Command::Check { at: 3, term })
+}
+
+// One command of each kind of part.
+fn command(alloc: Global, number: u32) -> Result<Command, NoMemory> {
+    match number {
+        0 => Ok(Command::Axiom(decl(alloc)?)),
+        1 => definition(alloc),
+        2 => inductive(alloc),
+        3 => class(alloc),
+        4 => equations(alloc),
+        5 => open_names(alloc),
+        6 => Ok(Command::End { at: 2, name: None }),
+        7 => check(alloc),
+        _ => Ok(Command::Bad {
+            at: 4,
+            fault: SyntaxFault::Deep,
+        }),
+    }
 }
 
 // A copy prints as its source.
 #[test]
 fn copies_commands(rt: HostRuntime) -> Result<(), Fail> {
-    for command in &commands(rt.alloc())? {
+    for number in 0..9 {
+        let command = command(rt.alloc(), number)?;
         let copy = command.copy(rt.alloc())?;
         let wanted = format!(in rt.alloc(); "{command:?}")?;
         let got = format!(in rt.alloc(); "{copy:?}")?;
