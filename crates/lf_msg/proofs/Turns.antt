@@ -1,6 +1,6 @@
 -- One tree more.
 use Rattle.std.specs.Prelude.{◌≡◌, ℕ, ◌+◌, ◌<◌, List, [], ◌∷◌, ◌++◌, length, take}
-use Rattle.std.proofs.Common.{refl, sym, ◌∙◌, ap, append_assoc, append-nil, get_or}
+use Rattle.std.proofs.Common.{sym, ◌∙◌, ap, append_assoc, append-nil, get_or}
 use Rattle.std.proofs.lemmas.List.{take_more}
 use Rattle.lf_msg.specs.Trees.{Flat, flat_all}
 

@@ -1,7 +1,6 @@
 -- Trees of messages as a report has them: a node's messages, and then its children's, in order.
-use Rattle.std.specs.Prelude.{ℕ, suc, ◌+◌, ◌≤◌, List, [], ◌∷◌, ◌++◌, refl}
+use Rattle.std.specs.Prelude.{ℕ, suc, ◌+◌, ◌≤◌, List, [], ◌∷◌, ◌++◌}
 use Rattle.std.proofs.Common.{arith}
-use Rattle.std.specs.Coded.{Coded, code_by, coded×, coded_ℕ, coded_list, codes}
 use denote.Param.Weighed.{most}
 use Rattle.lf_msg.specs.declared.message.Message.{Message}
 

@@ -1,4 +1,4 @@
-use Rattle.std.proofs.Common.{◌≡◌, ◌∙◌, ◌++◌, ap, sym, take, append_assoc}
+use Rattle.std.proofs.Common.{◌∙◌, ◌++◌, ap, sym, take, append_assoc}
 use Rattle.lf_msg.specs.Trees.{flat_all}
 use Rattle.lf_msg.proofs.Turns.{flat_turn}
 use Rattle.lf_msg.proofs.tree.Tree.+put.Goals as goal
