@@ -1,0 +1,9 @@
+pub mod Members
+pub mod Finds
+pub mod Order
+pub mod Extending
+pub mod Cuts
+pub mod Calls
+pub mod Joining
+pub mod Views
+pub mod Worked

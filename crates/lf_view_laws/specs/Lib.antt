@@ -1,0 +1,2 @@
+pub mod Fuller
+pub mod Worked
