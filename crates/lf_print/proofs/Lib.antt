@@ -1,3 +1,4 @@
 pub mod Unused
 pub mod Forms
 pub mod Opens
+pub mod Spelled

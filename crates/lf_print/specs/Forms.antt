@@ -3,10 +3,10 @@ use Rattle.std.specs.Prelude.{ℕ, Bool, true, if◌then◌else◌, Option, List
 use Rattle.lf_core.specs.Term.{Path, Term, bound, free, meta, sort, const, app, lam, pi, letin, lit, proj}
 use Rattle.lf_print.specs.Operators.{operation_of, relation_of, is_negation}
 use Rattle.lf_print.specs.Printed.{printed, applied, infixed, negated}
-use Rattle.lf_print.specs.declared.operator.Infix.{Infix}
+use Rattle.lf_text.specs.declared.operator.Op.{Op}
 
 pub data ApplicationForm : Type 0 where
-  between_form : Option Infix → Term → ApplicationForm
+  between_form : Option Op → Term → ApplicationForm
   negation_form : ApplicationForm
   plain_form : ApplicationForm
 

@@ -52,7 +52,7 @@ use Rattle.lf_core.specs.Term.{
 use Rattle.lf_name.specs.declared.binder.BinderKind.{BinderKind}
 use Rattle.lf_name.specs.declared.binder.BinderKind.TheVariants.{Explicit, Implicit, Inst}
 use Rattle.lf_print.specs.Mark.{mark_text}
-use Rattle.lf_print.specs.Operators.{operation_of, relation_of, is_negation}
+use Rattle.lf_print.specs.Operators.{operation_of, relation_of, is_negation, mark_of}
 use Rattle.lf_print.specs.declared.mark.Mark.{Mark}
 use Rattle.lf_print.specs.declared.mark.Mark.TheVariants.{
   OpenParen,
@@ -66,7 +66,6 @@ use Rattle.lf_print.specs.declared.mark.Mark.TheVariants.{
   Hole,
   Colon,
   Comma,
-  Arrow,
   ForAll,
   Fun,
   Maps,
@@ -83,7 +82,9 @@ use Rattle.lf_print.specs.declared.mark.Mark.TheVariants.{
   Not,
   Cut,
 }
-use Rattle.lf_print.specs.declared.operator.Infix.{Infix}
+use Rattle.lf_text.specs.Operators.{op_level, left_of, right_of}
+use Rattle.lf_text.specs.declared.operator.Op.{Op}
+use Rattle.lf_text.specs.declared.operator.Op.TheVariants as op
 
 abbrev pub when : Bool → Mark → List ℕ
 when true m = mark_text m
@@ -165,9 +166,10 @@ abbrev pub applied : ℕ → List ℕ → List ℕ → List ℕ
 applied p f a = in_parentheses (nat_lt 1023 p) (f ++ (mark_text Space ++ a))
 
 -- The place of a function, which asks for 1023, has more arguments, so no operator stands there.
-abbrev pub infixed : ℕ → Option Infix → (ℕ → List ℕ) → (ℕ → List ℕ) → List ℕ → List ℕ
+abbrev pub infixed : ℕ → Option Op → (ℕ → List ℕ) → (ℕ → List ℕ) → List ℕ → List ℕ
 infixed p None left right plain = plain
-infixed p (Some o) left right plain = if p == 1023 then plain else in_parentheses (nat_lt o.level p) (left o.left ++ (mark_text o.mark ++ right o.right))
+infixed p (Some o) left right plain = if p == 1023 then plain else in_parentheses (nat_lt (op_level o) p)
+    (left (left_of o) ++ (mark_text (mark_of o) ++ right (right_of o)))
 
 abbrev pub negated : ℕ → Bool → List ℕ → List ℕ → List ℕ
 negated p false a plain = plain
@@ -194,7 +196,8 @@ printed fs ls p xs (lam x A b) = in_parentheses (nat_lt 25 p)
     (mark_text Fun ++ (binder_text x.kind x.name (printed fs ls 0 xs A) ++ (mark_text Maps ++ printed fs ls 0 (x.name ∷ xs) b)))
 printed fs ls p xs (pi x A B) =
     if is_explicit x.kind && not (is_used 0 B)
-    then in_parentheses (nat_lt 25 p) (printed fs ls 26 xs A ++ (mark_text Arrow ++ printed fs ls 25 (x.name ∷ xs) B))
+    then in_parentheses (nat_lt (op_level op.Arrow) p)
+    (printed fs ls (left_of op.Arrow) xs A ++ (mark_text (mark_of op.Arrow) ++ printed fs ls (right_of op.Arrow) (x.name ∷ xs) B))
     else in_parentheses (nat_lt 25 p) (mark_text ForAll
     ++ (binder_text x.kind x.name (printed fs ls 0 xs A) ++ (mark_text Comma ++ printed fs ls 0 (x.name ∷ xs) B)))
 printed fs ls p xs (letin x A v b) =

@@ -8,7 +8,7 @@ mod piece;
 mod printing;
 
 pub use mark::Mark;
-pub use operator::{Infix, negation, operation, relation};
+pub use operator::{infix_mark, negation, operation, relation};
 pub use page::LIMIT;
 pub use printing::print;
 

@@ -1,56 +1,38 @@
 ghost use Rattle.std.specs.Prelude.{◌≡◌};
 ghost use Rattle.std.specs.Str.{bytes_eq};
-ghost use Rattle.lf_print.specs.Operators.{logic_of, arithmetic_of, operation_of, relation_of, is_negation};
+ghost use Rattle.lf_print.specs.Mark.{mark_text};
+ghost use Rattle.lf_print.specs.Operators.{logic_of, arithmetic_of, operation_of, relation_of, is_negation, mark_of, IsSpelled};
 
 use crate::mark::Mark;
 use lf_core::Word;
+use lf_text::Op;
 
-/// How an operator between its operands is printed: its text, its own level, and the levels that it asks of them.
-#[derive(Clone, Copy)]
-pub struct Infix {
-    pub mark: Mark,
-    pub level: u32,
-    pub left: u32,
-    pub right: u32,
-}
-
-fn binding(mark: Mark, level: u32, left: u32, right: u32) -> Infix
-    ensures { result ≡ record { mark = mark; level = level; left = left; right = right } }
-{
-    Infix {
-        mark,
-        level,
-        left,
-        right,
-    }
-}
-
-fn logic(name: &str) -> Option<Infix>
+fn logic(name: &str) -> Option<Op>
     ensures { result ≡ logic_of name.now }
 {
     match name {
-        "Iff" => Some(binding(Mark::Iff, 20, 21, 21)),
-        "Or" => Some(binding(Mark::Or, 30, 31, 30)),
-        "And" => Some(binding(Mark::And, 35, 36, 35)),
+        "Iff" => Some(Op::Iff),
+        "Or" => Some(Op::Or),
+        "And" => Some(Op::And),
         _ => None,
     }
 }
 
-fn arithmetic(name: &str) -> Option<Infix>
+fn arithmetic(name: &str) -> Option<Op>
     ensures { result ≡ arithmetic_of name.now }
 {
     match name {
-        "add" => Some(binding(Mark::Plus, 65, 65, 66)),
-        "sub" => Some(binding(Mark::Sub, 65, 65, 66)),
-        "mul" => Some(binding(Mark::Mul, 70, 70, 71)),
-        "div" => Some(binding(Mark::Div, 70, 70, 71)),
-        "mod" => Some(binding(Mark::Mod, 70, 70, 71)),
+        "add" => Some(Op::Add),
+        "sub" => Some(Op::Sub),
+        "mul" => Some(Op::Mul),
+        "div" => Some(Op::Div),
+        "mod" => Some(Op::Mod),
         _ => None,
     }
 }
 
-/// The notation of the constant with these parts that has two arguments.
-pub fn operation(parts: &[Word]) -> Option<Infix>
+/// The operator that the constant with these parts is, with two arguments.
+pub fn operation(parts: &[Word]) -> Option<Op>
     ensures { result ≡ operation_of parts.now }
 {
     match parts {
@@ -67,15 +49,15 @@ pub fn operation(parts: &[Word]) -> Option<Infix>
     }
 }
 
-/// The notation of the constant with these parts that has three arguments, the first a type.
-pub fn relation(parts: &[Word]) -> Option<Infix>
+/// The operator that the constant with these parts is, with three arguments, the first a type.
+pub fn relation(parts: &[Word]) -> Option<Op>
     ensures { result ≡ relation_of parts.now }
 {
     match parts {
         [] => None,
         [name] => match name.as_str() {
-            "Eq" => Some(binding(Mark::Eq, 50, 51, 51)),
-            "Ne" => Some(binding(Mark::Ne, 50, 51, 51)),
+            "Eq" => Some(Op::Eq),
+            "Ne" => Some(Op::Ne),
             _ => None,
         },
         [_, _, ..] => None,
@@ -90,5 +72,26 @@ pub fn negation(parts: &[Word]) -> bool
         [] => false,
         [name] => name.as_str() == "Not",
         [_, _, ..] => false,
+    }
+}
+
+/// What is printed between the operands: a spelling of the operator, with spaces round it.
+#[tactic(auto, using(crate::proofs::Spelled::spelled))]
+pub fn infix_mark(op: Op) -> Mark
+    ensures value { result ≡ mark_of op }
+    ensures spelled { IsSpelled op (mark_text (mark_of op)) }
+{
+    match op {
+        Op::Iff => Mark::Iff,
+        Op::Arrow => Mark::Arrow,
+        Op::Or => Mark::Or,
+        Op::And => Mark::And,
+        Op::Eq => Mark::Eq,
+        Op::Ne => Mark::Ne,
+        Op::Add => Mark::Plus,
+        Op::Sub => Mark::Sub,
+        Op::Mul => Mark::Mul,
+        Op::Div => Mark::Div,
+        Op::Mod => Mark::Mod,
     }
 }

@@ -20,14 +20,17 @@ ghost use Rattle.lf_print.specs.Printed.{
 };
 ghost use Rattle.lf_print.specs.Mark.{mark_text};
 ghost use Rattle.lf_print.specs.Pieces.{todo};
-ghost use Rattle.lf_print.specs.declared.mark.Mark.TheVariants.{Not, Hole, Arrow, ForAll, Comma, Space, Dot};
+ghost use Rattle.lf_print.specs.declared.mark.Mark.TheVariants.{Not, Hole, ForAll, Comma, Space, Dot};
 ghost use Rattle.lf_print.specs.Forms.{form_of, form_text, plain_form, negation_form};
 ghost use Rattle.lf_print.specs.Told.{told};
-ghost use Rattle.lf_print.specs.Operators.{is_negation};
+ghost use Rattle.lf_print.specs.Operators.{is_negation, mark_of};
+ghost use Rattle.lf_text.specs.Operators.{op_level, left_of, right_of};
+ghost use Rattle.lf_text.specs.declared.operator.Op.TheVariants as op;
 
 use crate::mark::Mark;
-use crate::operator::{Infix, negation, operation, relation};
+use crate::operator::{infix_mark, negation, operation, relation};
 use lf_core::{Binder, BinderKind, Expr, ExprNode, Level, LevelNode, Name, NoMemory, Word};
+use lf_text::Op;
 use std::alloc::Global;
 
 /// A part of a text that is still to be printed, under the names of the binders that are open there.
@@ -167,16 +170,17 @@ fn arrow<'a>(
     place: u32,
 ) -> Result<Vec<Piece<'a>>, NoMemory>
     ensures { IfOk result (λ ps. (fs ls xs : List Path) (rest : List _)
-        → todo fs ls xs (ps.items ++ rest) ≡ in_parentheses (nat_lt 25 place)
-        (printed fs ls 26 xs domain.now ++ (mark_text Arrow ++ printed fs ls 25 (x.now.name ∷ xs) body.now)) ++ todo fs ls xs rest) }
+        → todo fs ls xs (ps.items ++ rest) ≡ in_parentheses (nat_lt (op_level op.Arrow) place)
+        (printed fs ls (left_of op.Arrow) xs domain.now ++ (mark_text (mark_of op.Arrow) ++ printed fs ls (right_of op.Arrow) (x.now.name ∷ xs) body.now))
+        ++ todo fs ls xs rest) }
 {
-    let wrapped = 25 < place;
+    let wrapped = u32::from(Op::Arrow.level()) < place;
     let pieces = vec![in alloc;
         Piece::When(wrapped, Mark::OpenParen),
-        Piece::Term(domain, 26),
-        Piece::Mark(Mark::Arrow),
+        Piece::Term(domain, u32::from(Op::Arrow.left())),
+        Piece::Mark(infix_mark(Op::Arrow)),
         Piece::Open(&x.name),
-        Piece::Term(body, 25),
+        Piece::Term(body, u32::from(Op::Arrow.right())),
         Piece::Close,
         Piece::When(wrapped, Mark::CloseParen),
     ]?;
@@ -268,21 +272,21 @@ fn plain<'a>(
 /// The pieces of an operator between its operands.
 fn between<'a>(
     alloc: Global,
-    notation: Infix,
+    op: Op,
     left: &'a Expr,
     right: &'a Expr,
     place: u32,
 ) -> Result<Vec<Piece<'a>>, NoMemory>
     ensures { IfOk result (λ ps. (fs ls xs : List Path) (rest : List _)
-        → todo fs ls xs (ps.items ++ rest) ≡ in_parentheses (nat_lt notation.level place)
-        (printed fs ls notation.left xs left.now ++ (mark_text notation.mark ++ printed fs ls notation.right xs right.now)) ++ todo fs ls xs rest) }
+        → todo fs ls xs (ps.items ++ rest) ≡ in_parentheses (nat_lt (op_level op) place)
+        (printed fs ls (left_of op) xs left.now ++ (mark_text (mark_of op) ++ printed fs ls (right_of op) xs right.now)) ++ todo fs ls xs rest) }
 {
-    let wrapped = notation.level < place;
+    let wrapped = u32::from(op.level()) < place;
     let pieces = vec![in alloc;
         Piece::When(wrapped, Mark::OpenParen),
-        Piece::Term(left, notation.left),
-        Piece::Mark(notation.mark),
-        Piece::Term(right, notation.right),
+        Piece::Term(left, u32::from(op.left())),
+        Piece::Mark(infix_mark(op)),
+        Piece::Term(right, u32::from(op.right())),
         Piece::When(wrapped, Mark::CloseParen),
     ]?;
     Ok(pieces)
@@ -303,26 +307,26 @@ fn negated<'a>(alloc: Global, a: &'a Expr, place: u32) -> Result<Vec<Piece<'a>>,
     Ok(pieces)
 }
 
-/// The pieces of `f` applied to `right`, which is an operator's where the notation is one.
+/// The pieces of `f` applied to `right`, which is an operator's where there is one.
 fn infixed<'a>(
     alloc: Global,
-    notation: Option<Infix>,
+    operator: Option<Op>,
     f: &'a Expr,
     left: &'a Expr,
     right: &'a Expr,
     place: u32,
 ) -> Result<Vec<Piece<'a>>, NoMemory>
     ensures { IfOk result (λ ps. (fs ls xs : List Path) (rest : List _)
-        → todo fs ls xs (ps.items ++ rest) ≡ infixed_text place notation (λ q. printed fs ls q xs left.now) (λ q. printed fs ls q xs right.now)
+        → todo fs ls xs (ps.items ++ rest) ≡ infixed_text place operator (λ q. printed fs ls q xs left.now) (λ q. printed fs ls q xs right.now)
         (applied place (printed fs ls 1023 xs f.now) (printed fs ls 1024 xs right.now)) ++ todo fs ls xs rest) }
 {
-    match notation {
+    match operator {
         None => plain(alloc, f, right, place),
-        Some(notation) => {
+        Some(op) => {
             if place == 1023 {
                 plain(alloc, f, right, place)
             } else {
-                between(alloc, notation, left, right, place)
+                between(alloc, op, left, right, place)
             }
         }
     }
@@ -330,7 +334,7 @@ fn infixed<'a>(
 
 /// How an application of a function is printed: as an operator with the left operand, as a negation, or as it is.
 enum Form<'a> {
-    Between(Option<Infix>, &'a Expr),
+    Between(Option<Op>, &'a Expr),
     Negation,
     Plain,
 }
@@ -415,7 +419,7 @@ fn formed<'a>(
         → todo fs ls xs (ps.items ++ rest) ≡ form_text fs ls place xs f.now a.now (told form.entry) ++ todo fs ls xs rest) }
 {
     match form {
-        Form::Between(notation, x) => infixed(alloc, notation, f, x, a, place),
+        Form::Between(operator, x) => infixed(alloc, operator, f, x, a, place),
         Form::Negation => {
             if place == 1023 {
                 plain(alloc, f, a, place)
