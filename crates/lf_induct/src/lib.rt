@@ -1,0 +1,16 @@
+//! The test of inductive declarations, and the constants that they add.
+#![tactic(auto)]
+
+mod admit;
+mod constants;
+mod constructor;
+mod elimination;
+mod family;
+mod fields;
+mod form;
+mod front;
+mod levels;
+mod read;
+
+pub use admit::admit_over;
+pub use constants::type_alone;
