@@ -1,0 +1,5 @@
+pub mod Written
+pub mod Base
+pub mod Worked
+pub mod Realized
+pub mod Scopes

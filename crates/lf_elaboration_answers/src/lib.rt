@@ -1,0 +1,21 @@
+//! Answers of elaboration that are known from elsewhere, as laws by computation.
+#![tactic(auto)]
+
+ghost use Rattle.lf_elaboration_answers.specs.Realized.{RealizedAnswers};
+ghost use Rattle.lf_elaboration_answers.specs.Scopes.{ScopeAnswers};
+ghost use Rattle.lf_elaboration_answers.specs.Worked.{Answers};
+
+/// Metavariables, unification, terms, blocks and proof items on small examples.
+pub fn worked_answers()
+    ensures { Answers }
+{}
+
+/// Statements of realized constants, whose proofs the kernel accepts; and the axioms that a constant reaches.
+pub fn realized_answers()
+    ensures { RealizedAnswers }
+{}
+
+/// Scopes, candidates, and the variables and level names that declarations take.
+pub fn scope_answers()
+    ensures { ScopeAnswers }
+{}
