@@ -95,7 +95,7 @@ impl Listing {
     }
 
     /// These entries, shared.
-    fn share(&self) -> Result<Listing, NoMemory>
+    pub fn share(&self) -> Result<Listing, NoMemory>
         ensures { IfOk result (λ l. l ≡ self.now) }
     {
         let alloc = *self.layers.allocator();

@@ -375,6 +375,26 @@ impl View {
         }
     }
 
+    /// The same view once more, of which each can grow by itself. No entry is copied.
+    pub fn share(&self) -> Result<View, NoMemory>
+        ensures { IfOk result (λ v. v ≡ self.now) }
+    {
+        let entries = self.entries.share()?;
+        let joined = self.joined.share()?;
+        let opened = self.opened.share()?;
+        let realized = self.realized.share()?;
+        let failed = self.failed.share()?;
+        Ok(View {
+            entries,
+            joined,
+            opened,
+            realized,
+            failed,
+            position: self.position,
+            for_base: self.for_base,
+        })
+    }
+
     /// What stands before the limit, with these answers.
     fn narrowed(
         &self,

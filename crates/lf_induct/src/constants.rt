@@ -9,11 +9,9 @@ ghost use Rattle.lf_induct.specs.Parts as parts;
 use lf_core::{ConstInfo, ConstKind, CtorInfo, Detail, Expr, IndDecl, Name, NoMemory, copy_names};
 use lf_recursor::{pi_count, recursor_of};
 use lf_steps::{Halt, out};
+use lf_subst::DEEPEST;
 use sqlite_items::Items;
 use std::alloc::Global;
-
-/// The deepest term that is put together.
-const DEEPEST: u32 = 1024;
 
 // Puts the constructors' names behind `all`.
 fn push_names(alloc: Global, all: &mut Items<Name>, ctors: &[CtorInfo]) -> Result<(), NoMemory>

@@ -8,10 +8,8 @@ ghost use Rattle.lf_checker.specs.Admission as spec;
 use lf_core::{Level, NoMemory};
 use lf_level::{LevelFault, leq};
 use lf_steps::is_same;
+use lf_subst::DEEPEST;
 use std::alloc::Global;
-
-/// The deepest levels that are compared.
-const DEEPEST: u32 = 1024;
 
 // For levels without metavariables: with more than 8 parameters or a greater depth none is known to be at most the other.
 #[tactic(auto, using(crate::proofs::Orders::tested_is, crate::proofs::Orders::too_many, crate::proofs::Orders::left_deep, crate::proofs::Orders::right_deep, lf_steps::proofs::LevelTests::no_metavariable))]

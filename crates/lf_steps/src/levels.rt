@@ -9,10 +9,8 @@ ghost use Rattle.lf_checker.specs.Equal as equal;
 
 use lf_core::{Expr, ExprNode, Level, NoMemory};
 use lf_level::LevelFault;
+use lf_subst::DEEPEST;
 use std::alloc::Global;
-
-/// The deepest levels that are compared.
-const DEEPEST: u32 = 1024;
 
 // For levels without metavariables: more than 8 parameters or a greater depth is not the same.
 #[tactic(auto, using(crate::proofs::LevelTests::tested_is, crate::proofs::LevelTests::too_many, crate::proofs::LevelTests::left_deep, crate::proofs::LevelTests::right_deep, crate::proofs::LevelTests::no_metavariable))]

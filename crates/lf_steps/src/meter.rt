@@ -11,11 +11,8 @@ use crate::halt::{Halt, out};
 use crate::spine::apply;
 use lf_base::Stop;
 use lf_core::{Expr, Level};
-use lf_subst::{SubstFault, abstract_free, instantiate, level_inst};
+use lf_subst::{DEEPEST, SubstFault, abstract_free, instantiate, level_inst};
 use std::alloc::Global;
-
-/// The deepest term that is put together.
-const DEEPEST: u32 = 1024;
 
 /// The greatest number of a variable.
 const GREATEST: usize = 4294967294;

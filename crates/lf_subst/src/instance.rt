@@ -8,7 +8,7 @@ use crate::fault::SubstFault;
 use lf_core::{Expr, ExprNode, NoMemory};
 use std::alloc::Global;
 
-/// The deepest term that is made.
+/// The deepest term that is made, and the deepest level that is compared.
 pub const DEEPEST: u32 = 1024;
 
 // `term` with `n` more binders round it, of whose binders `under` are its own. Where nothing is raised it is given back.

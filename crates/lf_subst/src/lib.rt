@@ -9,7 +9,7 @@ mod unlimited;
 
 pub use closing::abstract_free;
 pub use fault::SubstFault;
-pub use instance::instantiate;
+pub use instance::{DEEPEST, instantiate};
 pub use levels::level_inst;
 pub use unlimited::{at_levels, close_body, open_body};
 
