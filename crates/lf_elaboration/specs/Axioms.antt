@@ -23,7 +23,7 @@ use Rattle.lf_checker.specs.View.{
   value_of,
 }
 use Rattle.lf_checker.specs.Whnf.{turn_limit}
-use Rattle.lf_elaboration.specs.Variables.{is_among}
+use Rattle.lf_rules.specs.Recursor.{is_among}
 
 -- ---- What a constant names
 
@@ -80,6 +80,8 @@ visits ns = map visit ns
 pub data Walk : Type 0 where
   ended : List Path → Walk
   waits : TaskKey → Walk
+  -- 2^64 - 1 tasks didn't suffice
+  unended : Walk
 
 -- Each constant is visited once; one that isn't there is passed over.
 abbrev pub walk_on : (List Path → List Task → Walk) → View → List Path → Path → List Task → Lookup → Walk
@@ -94,7 +96,7 @@ read_on next seen ts opaque = next seen ts
 read_on next seen ts (unresolved k) = waits k
 
 abbrev pub walk : View → ℕ → List Path → List Task → Walk
-walk V zero seen ts = ended seen
+walk V zero seen ts = unended
 walk V (suc n) seen [] = ended seen
 walk V (suc n) seen (visit x ∷ ts) = if is_among x seen then walk V n seen ts else walk_on (walk V n) V seen x ts (lookup_of V x)
 walk V (suc n) seen (read x ∷ ts) = read_on (walk V n) seen ts (value_of V x)
@@ -107,6 +109,7 @@ axioms_among seen (e ∷ es) = if is_axiom e.info.kind && is_among e.info.name s
 abbrev pub axioms_by : View → Walk → Walk
 axioms_by V (ended seen) = ended (axioms_among seen V.entries)
 axioms_by V (waits k) = waits k
+axioms_by V unended = unended
 
 -- The axioms that the constant of this name reaches.
 abbrev pub reached : View → Path → Walk

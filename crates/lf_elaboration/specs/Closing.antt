@@ -1,10 +1,9 @@
 -- Where a binder closes, and at the end of a part: the holes that were made meanwhile are run, in the order in which they were made; then each
 -- metavariable that was made has to be assigned.
-use Rattle.std.specs.Prelude.{ℕ, Bool, true, false, Option, Some, None, is_some, List, [], ◌∷◌, ◌++◌, codes, length, take, drop, slice_get}
+use Rattle.std.specs.Prelude.{ℕ, Bool, Option, Some, None, is_some, not, nat_le, List, [], ◌∷◌, ◌++◌, codes, filter, slice_get}
 use Rattle.lf_core.specs.Term.{Path, Universe, Term, meta, const, app}
 use Rattle.lf_core.specs.Summary.{has_metavariable}
 use Rattle.lf_syntax.specs.Tree.{ItemTree}
-use Rattle.lf_elaboration.specs.declared.change.Change.TheVariants.{Assigned}
 use Rattle.lf_elaboration.specs.declared.hole.Hole.{Hole}
 use Rattle.lf_elaboration.specs.Metavariables.{Metavariable, metavariables, count, level_count, value, unassigned, level_unassigned, escaping}
 use Rattle.lf_elaboration.specs.Messages as says
@@ -16,14 +15,13 @@ use Rattle.lf_elaboration.specs.Part.{Part, Locals, State, Run, Calls, on_change
 
 -- ---- Marks
 
--- How many holes wait, and how many metavariables of terms and of levels there are.
+-- How many metavariables of terms and of levels there are.
 pub record Mark : Type 0 where
-  pub pending : ℕ
   pub terms : ℕ
   pub levels : ℕ
 
 abbrev pub mark : Run Mark
-mark = reading λ s. gives (record { pending = length s.pending; terms = count s.changes; levels = level_count s.changes })
+mark = reading λ s. gives (record { terms = count s.changes; levels = level_count s.changes })
 
 -- ---- Blocks that fail leave only themselves: their holes are `sorryAx` of their types, and the part goes on.
 
@@ -45,16 +43,30 @@ after_block s (need k) = need k
 abbrev pub as_block : {A : Type 0} → Run A → Run (Option A)
 as_block m = λ u s. after_block s (m u (record s { nodes = [] }))
 
-abbrev pub assigned : ℕ → Term → Run (Unit {0})
-assigned m t = on_changes (run.changed (Assigned m t ∷ []) tt)
-
--- What stands for the metavariable already, stays.
-abbrev pub assigned_unless : Bool → ℕ → Run Term → Run (Unit {0})
-assigned_unless true m t = gives tt
-assigned_unless false m t = t >>= (λ x. assigned m x)
+-- The term becomes what the metavariable of this type stands for, where it may; else it doesn't fit, with the goal as both types.
+abbrev pub becomes : Part → Locals → ℕ → ℕ → Term → Term → Run (Unit {0})
+becomes P L at m goal t = do
+  fits ← on_changes (run.assign m t)
+  or_else_fail fits (mismatch P L at goal goal)
 
 abbrev pub is_assigned : ℕ → Run Bool
 is_assigned m = reading λ s. gives (is_some (value s.changes m))
+
+abbrev pub unless_assigned : ℕ → Run (Unit {0}) → Run (Unit {0})
+unless_assigned m n = do
+  has ← is_assigned m
+  choose has (gives tt) n
+
+-- A proof of the metavariable's type: where unification has put a term for it already, the two are unified.
+abbrev pub fits_term : Part → Calls → Locals → ℕ → ℕ → Term → Term → Run (Unit {0})
+fits_term P c L at m goal t = do
+  fits ← unify c L (meta m) t
+  or_else_fail fits (mismatch P L at goal goal)
+
+abbrev pub proved_by : Part → Calls → Locals → ℕ → ℕ → Term → Term → Run (Unit {0})
+proved_by P c L at m goal proof = do
+  has ← is_assigned m
+  choose has (fits_term P c L at m goal proof) (becomes P L at m goal proof)
 
 abbrev pub sorry_for : Part → Calls → Locals → ℕ → Term → Run Term
 sorry_for P c L at A = do
@@ -63,14 +75,10 @@ sorry_for P c L at A = do
 
 -- ---- One hole, whose metavariable was made by the node at `at`
 
--- The block's proof is unified with its metavariable.
+-- Where the block failed, what stands for the metavariable already stays.
 abbrev pub settled : Part → Calls → Locals → ℕ → ℕ → Term → Option Term → Run (Unit {0})
-settled P c L at m goal (Some proof) = do
-  fits ← unify c L (meta m) proof
-  or_else_fail fits (mismatch P L at goal goal)
-settled P c L at m goal None = do
-  has ← is_assigned m
-  assigned_unless has m (sorry_for P c L at goal)
+settled P c L at m goal (Some proof) = proved_by P c L at m goal proof
+settled P c L at m goal None = unless_assigned m (sorry_for P c L at goal >>= (λ t. becomes P L at m goal t))
 
 -- The goal and the types of the locals have their assigned metavariables put in.
 abbrev pub locals_put_in : Locals → Run Locals
@@ -87,7 +95,7 @@ run_block P c L at m A items = do
     settled P c L' at m goal proof
 
 abbrev pub instance_found : Part → Locals → ℕ → ℕ → Term → Option Term → Run (Unit {0})
-instance_found P L at m goal (Some t) = assigned m t
+instance_found P L at m goal (Some t) = becomes P L at m goal t
 instance_found P L at m goal None = error_on P L.names at says.no_instance goal
 
 -- An instance is looked for where nothing stands for the metavariable yet.
@@ -99,17 +107,14 @@ find_instance P c L at m A = do
     t ← checks (c.synthesize L'.types goal)
     instance_found P L' at m goal t
 
-abbrev pub unless_assigned : Bool → Run (Unit {0}) → Run (Unit {0})
-unless_assigned true m = gives tt
-unless_assigned false m = m
+-- By its items, or without items as an instance.
+abbrev pub run_by : Part → Calls → Locals → ℕ → Metavariable → Option (List ItemTree) → Run (Unit {0})
+run_by P c L h m (Some items) = run_block P c L m.at h m.ty items
+run_by P c L h m None = unless_assigned h (find_instance P c L m.at h m.ty)
 
 abbrev pub run_made : Part → Calls → Locals → Hole → Option Metavariable → Run (Unit {0})
 run_made P c L h None = gives_up
-run_made P c L h (Some m) = by_items h.items
-  where
-    by_items : Option (List ItemTree) → Run (Unit {0})
-    by_items (Some items) = run_block P c L m.at h.metavariable m.ty items
-    by_items None = is_assigned h.metavariable >>= (λ has. unless_assigned has (find_instance P c L m.at h.metavariable m.ty))
+run_made P c L h (Some m) = run_by P c L h.metavariable m h.items
 
 abbrev pub run_hole : Part → Calls → Locals → Hole → Run (Unit {0})
 run_hole P c L h = reading λ s. run_made P c L h (slice_get (metavariables s.changes) h.metavariable)
@@ -118,9 +123,12 @@ abbrev pub run_holes : Part → Calls → Locals → List Hole → Run (Unit {0}
 run_holes P c L [] = gives tt
 run_holes P c L (h ∷ hs) = run_hole P c L h >> run_holes P c L hs
 
--- The holes from number k on no longer wait.
+-- The holes whose metavariables are numbered from k on no longer wait.
+abbrev pub is_from : ℕ → Hole → Bool
+is_from k h = nat_le k h.metavariable
+
 abbrev pub taken_from : ℕ → Run (List Hole)
-taken_from k = λ u s. done (drop k s.pending) u (record s { pending = take k s.pending })
+taken_from k = λ u s. done (filter (is_from k) s.pending) u (record s { pending = filter (λ h. not (is_from k h)) s.pending })
 
 abbrev pub run_pending : Part → Calls → Locals → ℕ → Run (Unit {0})
 run_pending P c L k = do
@@ -144,15 +152,20 @@ all_levels_assigned P k = reading λ s. choose (level_unassigned s.changes k) (e
 abbrev pub none_escapes : ℕ → Run (Unit {0})
 none_escapes n = reading λ s. undetermined_at (escaping s.changes n)
 
--- What was made since the mark is closed: with `levels` its metavariables of levels are looked at too, as at the end of a part.
-abbrev pub close : Part → Calls → Locals → Mark → Bool → Run (Unit {0})
+abbrev pub levels_from : Part → Option ℕ → Run (Unit {0})
+levels_from P None = gives tt
+levels_from P (Some k) = all_levels_assigned P k
+
+-- The holes of metavariables numbered from k on are run, and these have to be assigned; at the end of a part the metavariables of levels from
+-- a number on, too.
+abbrev pub close : Part → Calls → Locals → ℕ → Option ℕ → Run (Unit {0})
 close P c L k levels = do
-  run_pending P c L k.pending
-  all_assigned k.terms
-  choose levels (all_levels_assigned P k.levels) (gives tt)
+  run_pending P c L k
+  all_assigned k
+  levels_from P levels
 
 -- The binder of the innermost of these locals closes, which has the number n.
-abbrev pub close_binder : Part → Calls → Locals → Mark → ℕ → Run (Unit {0})
+abbrev pub close_binder : Part → Calls → Locals → ℕ → ℕ → Run (Unit {0})
 close_binder P c L k n = do
-  close P c L k false
+  close P c L k None
   none_escapes n

@@ -4,6 +4,7 @@ use Rattle.lf_core.specs.Term.{Path, Universe, level_zero, level_succ, level_max
 use Rattle.lf_core.specs.Same.{same_path}
 use Rattle.lf_core.specs.Substitution.{level_instantiate}
 use Rattle.lf_core.specs.declared.constant.TaskKey.{TaskKey}
+use Rattle.lf_rules.specs.Recursor.{parameters_from}
 use Rattle.lf_syntax.specs.declared.leaf.Ident.{Ident}
 use Rattle.lf_syntax.specs.declared.leaf.Num.{Num}
 use Rattle.lf_syntax.specs.Tree as written
@@ -38,31 +39,32 @@ abbrev pub parameter_at : Ident → Option ℕ → Run Universe
 parameter_at x (Some k) = gives (level_param k)
 parameter_at x None = error x.at (says.unknown_level x.name)
 
-abbrev pub named_level : Part → Ident → Run Universe
-named_level P x = parameter_at x (position_from 0 P.levels x.name)
+abbrev pub named_level : List Path → Ident → Run Universe
+named_level names x = parameter_at x (position_from 0 names x.name)
 
 -- `max a b c` is the maximum of a and of `max b c`.
 abbrev pub maximum : Universe → Option Universe → Universe
 maximum l None = l
 maximum l (Some m) = level_max l m
 
+-- A level, where the part has these level names.
 abbrev mutual
-  pub level_of : Part → LevelTree → Run Universe
-  level_of P (written.level_number n) = numeral_on n level_zero
-  level_of P (written.level_name x) = named_level P x
-  level_of P (written.level_plus at l n) = level_of P l >>= (λ b. numeral_on n b)
-  level_of P (written.level_max at ls) = greatest_of P ls >>= (λ m. gives (maximum level_zero m))
-  level_of P (written.level_imax at l m) = level_of P l >>= (λ a. level_of P m >>= (λ b. gives (level_imax a b)))
+  pub level_of : List Path → LevelTree → Run Universe
+  level_of names (written.level_number n) = numeral_on n level_zero
+  level_of names (written.level_name x) = named_level names x
+  level_of names (written.level_plus at l n) = level_of names l >>= (λ b. numeral_on n b)
+  level_of names (written.level_max at ls) = greatest_of names ls >>= (λ m. gives (maximum level_zero m))
+  level_of names (written.level_imax at l m) = level_of names l >>= (λ a. level_of names m >>= (λ b. gives (level_imax a b)))
 
-  pub greatest_of : Part → LevelTrees → Run (Option Universe)
-  greatest_of P written.no_level = gives None
-  greatest_of P (written.level_and l ls) = level_of P l >>= (λ a. greatest_of P ls >>= (λ m. gives (Some (maximum a m))))
+  pub greatest_of : List Path → LevelTrees → Run (Option Universe)
+  greatest_of names written.no_level = gives None
+  greatest_of names (written.level_and l ls) = level_of names l >>= (λ a. greatest_of names ls >>= (λ m. gives (Some (maximum a m))))
 
-abbrev pub levels_of : Part → List LevelTree → Run (List Universe)
-levels_of P [] = gives []
-levels_of P (l ∷ ls) = do
-  a ← level_of P l
-  bs ← levels_of P ls
+abbrev pub levels_of : List Path → List LevelTree → Run (List Universe)
+levels_of names [] = gives []
+levels_of names (l ∷ ls) = do
+  a ← level_of names l
+  bs ← levels_of names ls
   gives (a ∷ bs)
 
 abbrev pub fresh_levels : ℕ → Run (List Universe)
@@ -72,19 +74,15 @@ fresh_levels (suc n) = do
   ls ← fresh_levels n
   gives (l ∷ ls)
 
-abbrev pub parameters : ℕ → List Path → List Universe
-parameters k [] = []
-parameters k (n ∷ ns) = level_param k ∷ parameters (suc k) ns
-
 -- The written levels, of which there have to be as many as the constant has names; none written are fresh ones.
-abbrev pub levels_at : Part → Ident → Path → ℕ → List LevelTree → Run (List Universe)
-levels_at P x n k [] = fresh_levels k
-levels_at P x n k (l ∷ ls) = choose (nat_eq (length (l ∷ ls)) k) (levels_of P (l ∷ ls)) (error x.at (says.wrong_level_count n))
+abbrev pub levels_at : List Path → Ident → Path → ℕ → List LevelTree → Run (List Universe)
+levels_at names x n k [] = fresh_levels k
+levels_at names x n k (l ∷ ls) = choose (nat_eq (length (l ∷ ls)) k) (levels_of names (l ∷ ls)) (error x.at (says.wrong_level_count n))
 
 -- In an inductive command the type is at the command's own level names.
-abbrev pub own_levels_at : Part → Ident → Path → List LevelTree → Run (List Universe)
-own_levels_at P x n [] = gives (parameters 0 P.levels)
-own_levels_at P x n (l ∷ ls) = levels_at P x n (length P.levels) (l ∷ ls)
+abbrev pub own_levels_at : List Path → Ident → Path → List LevelTree → Run (List Universe)
+own_levels_at names x n [] = gives (parameters_from 0 (length names))
+own_levels_at names x n (l ∷ ls) = levels_at names x n (length names) (l ∷ ls)
 
 -- ---- What an identifier stands for: the first candidate that is found.
 
@@ -132,10 +130,10 @@ own_at n x ls (missing k) = needs k
 abbrev pub of_meaning : Part → Ident → List LevelTree → Meaning → Run Typed
 of_meaning P x ls (constant n c) = do
   ask_if_realized P.view n
-  ms ← levels_at P x n (length c.levels) ls
+  ms ← levels_at P.levels x n (length c.levels) ls
   constant_at n ms c.ty
 of_meaning P x ls (own_type n) = do
-  ms ← own_levels_at P x n ls
+  ms ← own_levels_at P.levels x n ls
   own_at n x ms (see P.view n)
 of_meaning P x ls nothing = error x.at (says.unknown_identifier x.name)
 of_meaning P x ls (waits k) = needs k

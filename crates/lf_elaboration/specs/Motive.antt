@@ -1,9 +1,24 @@
 -- Rewriting as a matter of terms alone: the motive of a rewriting, and the subterms that a rule is tried on.
-use Rattle.std.specs.Prelude.{ℕ, suc, Bool, true, false, ◌&&◌, ◌||◌, nat_eq, nat_lt, if◌then◌else◌, Option, Some, None, List, [], ◌∷◌, ◌++◌, length, filter}
-use Rattle.lf_core.specs.Term.{Term, bound, free, meta, sort, const, app, lam, pi, letin, lit, proj}
+use Rattle.std.specs.Prelude.{ℕ, suc, Bool, false, ◌&&◌, ◌||◌, nat_eq, nat_lt, if◌then◌else◌, Option, Some, None, is_some, List, [], ◌∷◌, ◌++◌, length, filter}
+use Rattle.lf_core.specs.Term.{Path, Term, bound, free, meta, sort, const, app, lam, pi, letin, lit, proj}
 use Rattle.lf_core.specs.Same.{same, same_path}
 use Rattle.lf_core.specs.Spine.{head_of, arguments_of}
 use Rattle.lf_core.specs.Summary.{loose_bound}
+use Rattle.lf_elaboration.specs.Forms.{
+  Instance,
+  as_constant,
+  as_variable,
+  as_metavariable,
+  as_sort,
+  as_application,
+  as_lambda,
+  as_pi,
+  as_literal,
+  as_projection,
+  is_bound,
+  is_let,
+}
+use Rattle.lf_elaboration.specs.Unifier.{same_number}
 
 -- The part stands in a term: it is the same tree as one of its subterms.
 abbrev pub stands_in : Term → Term → Bool
@@ -53,20 +68,23 @@ subterms (letin x A v b) = letin x A v b ∷ subterms A ++ (subterms v ++ subter
 subterms (lit n) = lit n ∷ []
 subterms (proj s i t) = proj s i t ∷ subterms t
 
+abbrev pub names_constant : Path → Option Instance → Bool
+names_constant c (Some d) = same_path c d.name
+names_constant c None = false
+
 -- Constants of one name, the same variable or literal, and else terms of one form.
 abbrev pub same_head : Term → Term → Bool
-same_head (const c ls) (const d ms) = same_path c d
-same_head (free j) (free k) = nat_eq j k
-same_head (lit m) (lit n) = nat_eq m n
-same_head (bound i) (bound j) = true
-same_head (meta j) (meta k) = true
-same_head (sort l) (sort m) = true
-same_head (app f a) (app g b) = true
-same_head (lam x A b) (lam y B d) = true
-same_head (pi x A B) (pi y D E) = true
-same_head (letin x A v b) (letin y B w d) = true
-same_head (proj s i t) (proj r j u) = true
-same_head a b = false
+same_head (const c ls) h = names_constant c (as_constant h)
+same_head (free k) h = same_number k (as_variable h)
+same_head (lit n) h = same_number n (as_literal h)
+same_head (bound i) h = is_bound h
+same_head (meta k) h = is_some (as_metavariable h)
+same_head (sort l) h = is_some (as_sort h)
+same_head (app f a) h = is_some (as_application h)
+same_head (lam x A b) h = is_some (as_lambda h)
+same_head (pi x A B) h = is_some (as_pi h)
+same_head (letin x A v b) h = is_let h
+same_head (proj s i t) h = is_some (as_projection h)
 
 abbrev pub is_like : Term → Term → Bool
 is_like l t =

@@ -13,7 +13,7 @@ use Rattle.lf_checker.specs.declared.fault.TypeFault.{TypeFault}
 use Rattle.lf_checker.specs.declared.fault.TypeFault.TheVariants as fault
 use Rattle.lf_elaboration.specs.declared.hole.Hole.{Hole}
 use Rattle.lf_elaboration.specs.Scope.{Scope}
-use Rattle.lf_elaboration.specs.Variables.{is_among}
+use Rattle.lf_rules.specs.Recursor.{is_among}
 use Rattle.lf_elaboration.specs.Forms.{as_sort}
 use Rattle.lf_elaboration.specs.Metavariables.{Changes, types_of}
 use Rattle.lf_elaboration.specs.Messages as says

@@ -1,5 +1,5 @@
 -- The names that a written term refers to: an identifier that stands as a term refers to constants and variables, a name in a level to a
--- level. A name that is being bound, or that only names a local to a proof item, refers to nothing.
+-- level. A name that is being bound, or that a proof item has by itself, refers to nothing.
 use Rattle.std.specs.Prelude.{List, [], ◌∷◌, ◌++◌, Option, Some, None, flat_map}
 use Rattle.lf_name.specs.Name.{Path}
 use Rattle.lf_syntax.specs.TermNode.{binders_tree}

@@ -150,7 +150,7 @@ function P c at body L (b ∷ bs) E = do
   B ← opened_codomain L.types p
   k ← mark
   r ← function P c at body (with_local L b.name.name A) bs B
-  close_binder P c (with_local L b.name.name A) k (length L.types)
+  close_binder P c (with_local L b.name.name A) k.terms (length L.types)
   f ← lambda_over (length L.types) (binder_of b) A r
   agreed_unless p (agreed P c L at f.ty E)
   gives f
@@ -174,7 +174,7 @@ pis P c body L (b ∷ bs) = do
   room L.types
   k ← mark
   B ← pis P c body (with_local L b.name.name A.term) bs
-  close_binder P c (with_local L b.name.name A.term) k (length L.types)
+  close_binder P c (with_local L b.name.name A.term) k.terms (length L.types)
   pi_over (length L.types) (binder_of b) A B
 
 -- An arrow opens no local; its binder is called `a`.
@@ -213,7 +213,7 @@ let_in P c L x s v body E = do
   room L.types
   k ← mark
   b ← c.elaborate given (with_local L x.name r.ty) body E
-  close_binder P c (with_local L x.name r.ty) k (length L.types)
+  close_binder P c (with_local L x.name r.ty) k.terms (length L.types)
   d ← closed_over (length L.types) b.term
   B ← closed_over (length L.types) b.ty
   T ← made (instantiate B r.term)
@@ -222,18 +222,18 @@ let_in P c L x s v body E = do
 
 -- ---- Sorts, holes, blocks, `sorry`
 
-abbrev pub level_or_zero : Part → Option LevelTree → Run Universe
-level_or_zero P None = gives level_zero
-level_or_zero P (Some l) = level_of P l
+abbrev pub level_or_zero : List Path → Option LevelTree → Run Universe
+level_or_zero names None = gives level_zero
+level_or_zero names (Some l) = level_of names l
 
 abbrev pub sort_term : Part → Calls → Locals → ℕ → Option Term → Universe → Run Typed
 sort_term P c L at E l = in_sort P c L at E (gives (record { term = sort l; level = level_succ l }))
 
 abbrev pub type_term : Part → Calls → Locals → ℕ → Option Term → Option LevelTree → Run Typed
-type_term P c L at E l = level_or_zero P l >>= (λ k. sort_term P c L at E (level_succ k))
+type_term P c L at E l = level_or_zero P.levels l >>= (λ k. sort_term P c L at E (level_succ k))
 
 abbrev pub sort_term_at : Part → Calls → Locals → ℕ → Option Term → Option LevelTree → Run Typed
-sort_term_at P c L at E l = level_or_zero P l >>= (λ k. sort_term P c L at E k)
+sort_term_at P c L at E l = level_or_zero P.levels l >>= (λ k. sort_term P c L at E k)
 
 -- `_`: a metavariable of the expected type; without one, of a type that isn't known yet.
 abbrev pub hole_of : Locals → ℕ → Term → Run Typed

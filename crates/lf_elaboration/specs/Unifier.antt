@@ -25,13 +25,11 @@ use Rattle.std.specs.Prelude.{
   unwrap_or,
 }
 use Rattle.lf_core.specs.Term.{
+  Path,
   Universe,
   level_zero,
-  level_succ,
-  level_max,
-  level_imax,
-  level_meta,
   Term,
+  bound,
   free,
   meta,
   sort,
@@ -39,24 +37,39 @@ use Rattle.lf_core.specs.Term.{
   app,
   lam,
   pi,
+  letin,
   lit,
   proj,
 }
 use Rattle.lf_core.specs.Same.{same, same_path}
 use Rattle.lf_core.specs.Spine.{head_of, arguments_of}
 use Rattle.lf_core.specs.Substitution.{abstract}
-use Rattle.lf_core.specs.Summary.{level_has_metavariable, has_metavariable, has_level_metavariable}
+use Rattle.lf_core.specs.Summary.{has_metavariable, has_level_metavariable}
 use Rattle.lf_name.specs.declared.binder.Binder.{Binder}
 use Rattle.lf_name.specs.declared.binder.BinderKind.TheVariants.{Explicit}
 use Rattle.lf_rules.specs.Environment.{Context, with, nat_succ}
 use Rattle.lf_checker.specs.View.{View}
-use Rattle.lf_checker.specs.LevelTest.{is_same}
 use Rattle.lf_checker.specs.Calls.{Calls}
 use Rattle.lf_checker.specs.Whnf.{turn_limit}
 use Rattle.lf_checker.specs.Equal.{Verdict, decided, again, undecided, when_true, by_unfolding}
 use Rattle.lf_checker.specs.Checker.{calls}
-use Rattle.lf_elaboration.specs.Forms.{Binding, as_pi, as_variable, as_metavariable}
-use Rattle.lf_elaboration.specs.Metavariables.{Changes, types_of, put_level}
+use Rattle.lf_elaboration.specs.Forms.{
+  Binding,
+  Instance,
+  Applied,
+  Projection,
+  as_pi,
+  as_lambda,
+  as_sort,
+  as_constant,
+  as_variable,
+  as_metavariable,
+  as_application,
+  as_literal,
+  as_projection,
+}
+use Rattle.lf_elaboration.specs.Metavariables.{Changes, types_of}
+use Rattle.lf_elaboration.specs.LevelUnifier.{and_then, unify_level, unify_levels}
 use Rattle.lf_elaboration.specs.Run.{
   Run,
   ◌>>=◌,
@@ -72,7 +85,6 @@ use Rattle.lf_elaboration.specs.Run.{
   instantiated,
   type_unchecked,
   assign,
-  assign_level,
   or_as_before,
 }
 
@@ -81,10 +93,6 @@ abbrev pub Unify : Type 0
 Unify = Context → Term → Term → Run Changes Bool
 
 -- ---- Ways to put rules together
-
-abbrev pub and_then : Bool → Run Changes Bool → Run Changes Bool
-and_then true m = m
-and_then false m = gives false
 
 abbrev pub decided_by : Verdict → Run Changes Verdict → Run Changes Verdict
 decided_by undecided n = n
@@ -107,42 +115,6 @@ if_true m = do
   r ← m
   gives (when_true r)
 
--- ---- Levels
-
--- Two levels with their assigned metavariables put in; the parts may have more that are assigned meanwhile.
-abbrev pub by_level_form : (Universe → Universe → Run Changes Bool) → Universe → Universe → Run Changes Bool
-by_level_form part (level_meta j) (level_meta k) = choose (nat_eq j k) (gives true) (assign_level j (level_meta k))
-by_level_form part (level_meta k) m = assign_level k m
-by_level_form part l (level_meta k) = assign_level k l
-by_level_form part (level_succ l) (level_succ m) = part l m
-by_level_form part (level_max l m) (level_max j k) = do
-  r ← part l j
-  and_then r (part m k)
-by_level_form part (level_imax l m) (level_imax j k) = do
-  r ← part l j
-  and_then r (part m k)
-by_level_form part l m = gives false
-
-abbrev pub level_rule : (Universe → Universe → Run Changes Bool) → Universe → Universe → Run Changes Bool
-level_rule part l m = choose (level_has_metavariable l || level_has_metavariable m) (by_level_form part l m) (gives (is_same l m))
-
--- Levels that are nested at most n deep. Without metavariables they are compared under every assignment; a metavariable is assigned where it
--- doesn't stand in the other; successors and equal forms by their parts.
-abbrev pub unify_level_within : ℕ → Universe → Universe → Run Changes Bool
-unify_level_within zero l m = gives_up
-unify_level_within (suc n) l m = reading λ cs. level_rule (unify_level_within n) (put_level cs l) (put_level cs m)
-
-abbrev pub unify_level : Universe → Universe → Run Changes Bool
-unify_level l m = unify_level_within turn_limit l m
-
-abbrev pub unify_levels : List Universe → List Universe → Run Changes Bool
-unify_levels [] [] = gives true
-unify_levels (l ∷ ls) (m ∷ ms) = do
-  r ← unify_level l m
-  and_then r (unify_levels ls ms)
-unify_levels [] (m ∷ ms) = gives false
-unify_levels (l ∷ ls) [] = gives false
-
 -- ---- 1. No metavariable: equality decides. The same tree: true.
 
 abbrev pub has_any_metavariable : Term → Bool
@@ -161,18 +133,18 @@ pub record Pattern : Type 0 where
   pub metavariable : ℕ
   pub variables : List ℕ
 
-abbrev pub is_among : ℕ → List ℕ → Bool
-is_among k [] = false
-is_among k (j ∷ js) = nat_eq j k || is_among k js
+abbrev pub is_one_of : ℕ → List ℕ → Bool
+is_one_of k [] = false
+is_one_of k (j ∷ js) = nat_eq j k || is_one_of k js
 
 abbrev pub with_distinct : Option ℕ → Option (List ℕ) → Option (List ℕ)
 with_distinct None ks = None
 with_distinct (Some k) None = None
-with_distinct (Some k) (Some ks) = unless_among (is_among k ks)
+with_distinct (Some k) (Some ks) = unless_repeated (is_one_of k ks)
   where
-    unless_among : Bool → Option (List ℕ)
-    unless_among true = None
-    unless_among false = Some (k ∷ ks)
+    unless_repeated : Bool → Option (List ℕ)
+    unless_repeated true = None
+    unless_repeated false = Some (k ∷ ks)
 
 -- The terms are distinct variables.
 abbrev pub distinct_variables : List Term → Option (List ℕ)
@@ -275,25 +247,67 @@ lambda_right self C t A b = do
 abbrev pub by_predecessors : ℕ → Term → Run Changes Bool → Run Changes Verdict
 by_predecessors n f m = choose (same f nat_succ && nat_lt n (2 ^ 128)) (decides m) (gives undecided)
 
+abbrev pub by_sorts : Option Universe → Option Universe → Run Changes Verdict
+by_sorts (Some l) (Some m) = decides (unify_level l m)
+by_sorts (Some l) None = gives undecided
+by_sorts None m = gives undecided
+
+abbrev pub by_pis : Unify → Context → Option Binding → Option Binding → Run Changes Verdict
+by_pis self C (Some p) (Some q) = decides (unify_binders self C p.domain p.body q.domain q.body)
+by_pis self C (Some p) None = gives undecided
+by_pis self C None q = gives undecided
+
+abbrev pub by_lambdas : Unify → Context → Term → Term → Option Binding → Option Binding → Run Changes Verdict
+by_lambdas self C a b (Some p) (Some q) = decides (unify_binders self C p.domain p.body q.domain q.body)
+by_lambdas self C a b (Some p) None = decides (lambda_left self C p.domain p.body b)
+by_lambdas self C a b None (Some q) = decides (lambda_right self C a q.domain q.body)
+by_lambdas self C a b None None = gives undecided
+
+abbrev pub successor_left : Unify → Context → Option Applied → Option ℕ → Run Changes Verdict
+successor_left self C (Some s) (Some (suc n)) = by_predecessors (suc n) s.function (self C s.argument (lit n))
+successor_left self C (Some s) (Some zero) = gives undecided
+successor_left self C (Some s) None = gives undecided
+successor_left self C None n = gives undecided
+
+abbrev pub successor_right : Unify → Context → Option ℕ → Option Applied → Run Changes Verdict
+successor_right self C (Some (suc n)) (Some s) = by_predecessors (suc n) s.function (self C (lit n) s.argument)
+successor_right self C (Some zero) (Some s) = gives undecided
+successor_right self C (Some n) None = gives undecided
+successor_right self C None s = gives undecided
+
 abbrev pub by_form : Unify → Context → Term → Term → Run Changes Verdict
-by_form self C (sort l) (sort m) = decides (unify_level l m)
-by_form self C (pi x A B) (pi y D E) = decides (unify_binders self C A B D E)
-by_form self C (lam x A b) (lam y B d) = decides (unify_binders self C A b B d)
-by_form self C (lam x A b) t = decides (lambda_left self C A b t)
-by_form self C t (lam y B d) = decides (lambda_right self C t B d)
-by_form self C (app f t) (lit (suc n)) = by_predecessors (suc n) f (self C t (lit n))
-by_form self C (lit (suc n)) (app f t) = by_predecessors (suc n) f (self C (lit n) t)
-by_form self C a b = gives undecided
+by_form self C a b =
+    or_else (by_sorts (as_sort a) (as_sort b)) (or_else (by_pis self C (as_pi a) (as_pi b))
+    (or_else (by_lambdas self C a b (as_lambda a) (as_lambda b)) (or_else (successor_left self C (as_application a) (as_literal b))
+    (successor_right self C (as_literal a) (as_application b)))))
 
 -- ---- 5. One head at as many arguments: levels, the terms of projections, and arguments in order. All of them true decides, and else what
 -- they changed is undone.
 
+abbrev pub same_number : ℕ → Option ℕ → Bool
+same_number j (Some k) = nat_eq j k
+same_number j None = false
+
+abbrev pub unify_constants : Path → List Universe → Option Instance → Run Changes Bool
+unify_constants n ls (Some c) = choose (same_path n c.name) (unify_levels ls c.levels) (gives false)
+unify_constants n ls None = gives false
+
+abbrev pub unify_projections : Unify → Context → Path → ℕ → Term → Option Projection → Run Changes Bool
+unify_projections self C S i t (Some p) = choose (same_path S p.structure && nat_eq i p.field) (self C t p.term) (gives false)
+unify_projections self C S i t None = gives false
+
 abbrev pub unify_heads : Unify → Context → Term → Term → Run Changes Bool
-unify_heads self C (const n ls) (const k ms) = choose (same_path n k) (unify_levels ls ms) (gives false)
-unify_heads self C (free j) (free k) = gives (nat_eq j k)
-unify_heads self C (meta j) (meta k) = gives (nat_eq j k)
-unify_heads self C (proj S i t) (proj R j u) = choose (same_path S R && nat_eq i j) (self C t u) (gives false)
-unify_heads self C a b = gives false
+unify_heads self C (const n ls) h = unify_constants n ls (as_constant h)
+unify_heads self C (free k) h = gives (same_number k (as_variable h))
+unify_heads self C (meta k) h = gives (same_number k (as_metavariable h))
+unify_heads self C (proj S i t) h = unify_projections self C S i t (as_projection h)
+unify_heads self C (bound i) h = gives false
+unify_heads self C (sort l) h = gives false
+unify_heads self C (app f a) h = gives false
+unify_heads self C (lam x A b) h = gives false
+unify_heads self C (pi x A B) h = gives false
+unify_heads self C (letin x A v b) h = gives false
+unify_heads self C (lit n) h = gives false
 
 abbrev pub unify_all : Unify → Context → List Term → List Term → Run Changes Bool
 unify_all self C [] [] = gives true

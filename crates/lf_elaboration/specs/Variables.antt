@@ -9,6 +9,7 @@ use Rattle.std.specs.Prelude.{
   not,
   ◌&&◌,
   ◌||◌,
+  nat_eq,
   if◌then◌else◌,
   Option,
   Some,
@@ -25,6 +26,7 @@ use Rattle.std.specs.Prelude.{
 }
 use Rattle.lf_name.specs.Name.{Path}
 use Rattle.lf_name.specs.Same.{same_path}
+use Rattle.lf_rules.specs.Recursor.{is_among}
 use Rattle.lf_name.specs.declared.binder.BinderKind.{BinderKind}
 use Rattle.lf_name.specs.declared.binder.BinderKind.TheVariants.{Explicit, Implicit, Inst}
 use Rattle.lf_syntax.specs.Tree.{TermTree, BindersTree, binders}
@@ -56,9 +58,6 @@ abbrev pub all : {A : Type 0} → (A → Bool) → List A → Bool
 all p [] = true
 all p (x ∷ xs) = p x && all p xs
 
-abbrev pub is_among : Path → List Path → Bool
-is_among x ns = any (same_path x) ns
-
 -- ---- Variables
 
 -- A variable, each of a group by itself.
@@ -84,8 +83,9 @@ is_named rs v = not (is_hole v.name.name) && any (names_variable v.name.name) rs
 abbrev pub named_by : List Variable → Variable → List Variable
 named_by vs v = filter (is_named (term_references v.ty)) vs
 
+-- Names may be the same, places are not.
 abbrev pub holds : List Variable → Variable → Bool
-holds taken v = any (λ w. same_path w.name.name v.name.name) taken
+holds taken v = any (λ w. nat_eq w.name.at v.name.at) taken
 
 abbrev pub is_some_of : List Variable → Bool
 is_some_of [] = false

@@ -1,3 +1,4 @@
 mod Worked
 mod Realized
 mod Scopes
+mod Settled

@@ -3,3 +3,4 @@ pub mod Base
 pub mod Worked
 pub mod Realized
 pub mod Scopes
+pub mod Settled

@@ -98,6 +98,7 @@ reached n = ended_by (axioms.reached V n)
     ended_by : axioms.Walk → Option (List Path)
     ended_by (axioms.ended ns) = Some ns
     ended_by (axioms.waits k) = None
+    ended_by axioms.unended = None
 
 pub record RealizedAnswers : Type 0 where
   pub unfolding_of_constant : made (dotted "f" "eq_1") ≡ Some (text "f = 1")

@@ -1,5 +1,5 @@
 -- Scopes, candidates, and what declarations take, on commands as they are written.
-use Rattle.std.specs.Prelude.{◌≡◌, true, false, Some, None, List, [], ◌∷◌, ◌++◌, map}
+use Rattle.std.specs.Prelude.{◌≡◌, ℕ, true, false, Some, None, List, [], ◌∷◌, ◌++◌, map}
 use Prim.Native.String.{String}
 use Rattle.lf_core.specs.Term.{Path}
 use Rattle.lf_name.specs.declared.binder.BinderKind.{BinderKind}
@@ -15,8 +15,11 @@ use Rattle.lf_elaboration.specs.Variables.{variables_taken, level_names}
 use Rattle.lf_examples.specs.Words.{word, dotted}
 use Rattle.lf_elaboration_answers.specs.Written.{ident, named, name, applied}
 
+abbrev pub group_at : ℕ → BinderKind → String → TermTree → Binders
+group_at p k x t = record { at = p; kind = k; names = ident p x ∷ []; ty = t }
+
 abbrev pub group : BinderKind → String → TermTree → Binders
-group k x t = record { at = 0; kind = k; names = ident 0 x ∷ []; ty = t }
+group k x t = group_at 0 k x t
 
 abbrev pub declares : List Ident → List Binders → TermTree → Command
 declares ls bs t = Axiom (record { at = 0; name = ident 6 "A"; levels = ls; binders = bs; ty = Some t })
@@ -52,7 +55,13 @@ x_variable = Variable 0 (group Explicit "x" (name 0 "Nat") ∷ [])
 
 -- variable {α : Type} [i : C α] (y : D)
 abbrev pub class_variables : Command
-class_variables = Variable 0 (group Implicit "α" prop ∷ group Inst "i" (applied (name 0 "C") (name 0 "α" ∷ [])) ∷ group Explicit "y" (name 0 "D") ∷ [])
+class_variables =
+    Variable 0 (group_at 1 Implicit "α" prop ∷ group_at 2 Inst "i" (applied (name 0 "C") (name 0 "α" ∷ [])) ∷ group_at 3 Explicit "y" (name 0 "D") ∷ [])
+
+-- variable (α : Type) (β : Type) [C α] [C β] [D inst], where the first two in brackets have one name
+abbrev pub namesakes : Command
+namesakes = Variable 0 (group_at 1 Explicit "α" prop ∷ group_at 2 Explicit "β" prop ∷ group_at 3 Inst "inst" (applied (name 0 "C") (name 0 "α" ∷ []))
+    ∷ group_at 4 Inst "inst" (applied (name 0 "C") (name 0 "β" ∷ [])) ∷ group_at 5 Inst "d" (applied (name 0 "D") (name 0 "inst" ∷ [])) ∷ [])
 
 -- variable (y : x) (x : Nat)
 abbrev pub later_variable : Command
@@ -83,6 +92,10 @@ pub record ScopeAnswers : Type 0 where
   -- one in brackets goes along with all that it names
   pub instance_along : taken (class_variables ∷ []) (stating (name 0 "α")) ≡ word "α" ∷ word "i" ∷ []
   pub no_instance : taken (class_variables ∷ []) (stating (name 0 "y")) ≡ word "y" ∷ []
+  -- one of two of the same name isn't taken, and so neither is what names both
+  pub namesake_left : taken (namesakes ∷ []) (stating (name 0 "α")) ≡ word "α" ∷ word "inst" ∷ []
+  pub namesakes_taken : taken (namesakes ∷ []) (stating (applied (name 0 "α") (name 0 "β" ∷ [])))
+      ≡ word "α" ∷ word "β" ∷ word "inst" ∷ word "inst" ∷ word "d" ∷ []
   pub by_type : taken (later_variable ∷ []) (stating (name 0 "y")) ≡ word "y" ∷ word "x" ∷ []
   -- level names: none for a binder, one for a level, and a written one once
   pub no_level : levels (u_command ∷ []) [] (declares [] (group Explicit "u" (name 0 "Nat") ∷ []) prop) ≡ []

@@ -47,7 +47,7 @@ messages_of o = says.messages_of (state_of fresh o).nodes
 abbrev pub whole : Locals → TermTree → Option Term → Run Term
 whole L s E = do
   r ← elaborate P 512 L s E
-  close P 512 L (record { pending = 0; terms = 0; levels = 0 })
+  close P 512 L 0 (Some 0)
   instantiated r.term
 
 abbrev pub elaborated : Locals → TermTree → Option Term → Answer State Term

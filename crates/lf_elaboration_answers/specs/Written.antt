@@ -2,6 +2,7 @@
 use Rattle.std.specs.Prelude.{ℕ, true, false, List, [], ◌∷◌}
 use Prim.Native.String.{String}
 use Rattle.lf_core.specs.Term.{Path}
+use Rattle.lf_name.specs.declared.binder.BinderKind.TheVariants.{Explicit}
 use Rattle.lf_syntax.specs.declared.leaf.Ident.{Ident}
 use Rattle.lf_syntax.specs.Tree as tree
 use Rattle.lf_syntax.specs.Tree.{TermTree, ItemTree, terms_of, items_of, binders_of, rules_of}
@@ -43,6 +44,14 @@ by_items p is = tree.by_term p (items_of is)
 
 abbrev pub fun_of : ℕ → Ident → TermTree → TermTree
 fun_of p x s = tree.fun_term p (binders_of (tree.plain x ∷ [])) s
+
+-- fun x y => s
+abbrev pub fun_of_two : ℕ → Ident → Ident → TermTree → TermTree
+fun_of_two p x y s = tree.fun_term p (binders_of (tree.plain x ∷ tree.plain y ∷ [])) s
+
+-- fun (x : t) => s
+abbrev pub fun_typed : ℕ → Ident → TermTree → TermTree → TermTree
+fun_typed p x t s = tree.fun_term p (binders_of (tree.typed (tree.binders x.at Explicit (x ∷ []) t) ∷ [])) s
 
 abbrev pub rw : ℕ → TermTree → ItemTree
 rw p s = tree.rw_item p (rules_of (tree.rule (tree.place s) false s ∷ []))

@@ -3,11 +3,17 @@
 
 ghost use Rattle.lf_elaboration_answers.specs.Realized.{RealizedAnswers};
 ghost use Rattle.lf_elaboration_answers.specs.Scopes.{ScopeAnswers};
+ghost use Rattle.lf_elaboration_answers.specs.Settled.{SettledAnswers};
 ghost use Rattle.lf_elaboration_answers.specs.Worked.{Answers};
 
 /// Metavariables, unification, terms, blocks and proof items on small examples.
 pub fn worked_answers()
     ensures { Answers }
+{}
+
+/// What is assigned, what an error says and where, and the terms that items make, where the rules leave little room.
+pub fn settled_answers()
+    ensures { SettledAnswers }
 {}
 
 /// Statements of realized constants, whose proofs the kernel accepts; and the axioms that a constant reaches.

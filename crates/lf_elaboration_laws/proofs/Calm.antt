@@ -25,14 +25,56 @@ use Rattle.std.proofs.Common.{
   subst,
   ◌∙◌,
 }
-use Rattle.lf_core.specs.Term.{Universe, level_succ, level_max, level_imax, level_meta, Term, free, meta, sort, const, app, lam, pi, lit, proj}
+use Rattle.lf_core.specs.Term.{
+  Path,
+  Universe,
+  level_zero,
+  level_succ,
+  level_max,
+  level_imax,
+  level_param,
+  level_meta,
+  Term,
+  bound,
+  free,
+  meta,
+  sort,
+  const,
+  app,
+  lam,
+  pi,
+  letin,
+  lit,
+  proj,
+}
 use Rattle.lf_rules.specs.Environment.{Context}
 use Rattle.lf_checker.specs.View.{View}
 use Rattle.lf_checker.specs.Run as checker
 use Rattle.lf_checker.specs.Calls.{Calls}
 use Rattle.lf_checker.specs.Checker.{calls}
 use Rattle.lf_checker.specs.Equal.{Verdict, decided, again, undecided}
-use Rattle.lf_elaboration.specs.Forms.{as_pi}
+use Rattle.lf_elaboration.specs.Forms.{
+  Binding,
+  Instance,
+  Applied,
+  Projection,
+  Sides,
+  as_pi,
+  as_constant,
+  as_projection,
+  as_successor,
+  as_maximum,
+  as_impredicative_maximum,
+}
+use Rattle.lf_elaboration.specs.LevelUnifier.{
+  and_then,
+  by_both,
+  by_successors,
+  by_level_parts,
+  by_level_form,
+  unify_level_within,
+  unify_levels,
+}
 use Rattle.lf_elaboration.specs.Metavariables.{Changes, Unassigned}
 use Rattle.lf_elaboration.specs.Run.{
   Answer,
@@ -55,14 +97,10 @@ use Rattle.lf_elaboration.specs.Run.{
 }
 use Rattle.lf_elaboration.specs.Unifier.{
   Unify,
-  and_then,
   decided_by,
   or_else,
   decides,
   if_true,
-  by_level_form,
-  unify_level_within,
-  unify_levels,
   without_metavariables,
   Pattern,
   behind,
@@ -77,7 +115,14 @@ use Rattle.lf_elaboration.specs.Unifier.{
   lambda_left,
   lambda_right,
   by_predecessors,
+  by_sorts,
+  by_pis,
+  by_lambdas,
+  successor_left,
+  successor_right,
   by_form,
+  unify_constants,
+  unify_projections,
   unify_heads,
   unify_all,
   unify_spines,
@@ -103,7 +148,7 @@ append_twice : (cs ds es : Changes) → (cs ++ ds) ++ es ≡ cs ++ (ds ++ es)
 append_twice [] ds es = refl
 append_twice (c ∷ cs) ds es = ap (λ fs. c ∷ fs) (append_twice cs ds es)
 
-same : (cs : Changes) → Begins cs cs
+pub same : (cs : Changes) → Begins cs cs
 same cs = ([], append_nothing cs)
 
 longer : (cs ds es : Changes) → Begins cs ds → Begins ds es → Begins cs es
@@ -115,14 +160,14 @@ longer_calm cs ds (failed m u es) h g = absurd g
 longer_calm cs ds (out es) h g = longer cs ds es h g
 longer_calm cs ds (need k) h g = tt
 
-calm_then : {A B : Type 0} (cs : Changes) (o : Answer Changes A) (f : A → Run Changes B) → Calm cs o
+pub calm_then : {A B : Type 0} (cs : Changes) (o : Answer Changes A) (f : A → Run Changes B) → Calm cs o
     → ((x : A) (u : ℕ) (ds : Changes) → Calm ds (f x u ds)) → Calm cs (go_on o f)
 calm_then cs (done x u ds) f h k = longer_calm cs ds (f x u ds) h (k x u ds)
 calm_then cs (failed m u ds) f h k = absurd h
 calm_then cs (out ds) f h k = h
 calm_then cs (need n) f h k = tt
 
-calm_choose : {A : Type 0} (b : Bool) (m n : Run Changes A) (u : ℕ) (cs : Changes) → Calm cs (m u cs) → Calm cs (n u cs) → Calm cs (choose b m n u cs)
+pub calm_choose : {A : Type 0} (b : Bool) (m n : Run Changes A) (u : ℕ) (cs : Changes) → Calm cs (m u cs) → Calm cs (n u cs) → Calm cs (choose b m n u cs)
 calm_choose true m n u cs h g = h
 calm_choose false m n u cs h g = g
 
@@ -139,10 +184,10 @@ calm_answered cs (checker.refused e u) = same cs
 calm_answered cs checker.out = same cs
 calm_answered cs (checker.need k) = tt
 
-calm_checks : {A : Type 0} (m : checker.Run A) (u : ℕ) (cs : Changes) → Calm cs (checks m u cs)
+pub calm_checks : {A : Type 0} (m : checker.Run A) (u : ℕ) (cs : Changes) → Calm cs (checks m u cs)
 calm_checks m u cs = calm_answered cs (m u)
 
-calm_refused : (more cs : Changes) (o : Option Unassigned) (u : ℕ) → Calm cs (unless_refused more o u cs)
+pub calm_refused : (more cs : Changes) (o : Option Unassigned) (u : ℕ) → Calm cs (unless_refused more o u cs)
 calm_refused more cs None u = (more, refl)
 calm_refused more cs (Some r) u = same cs
 
@@ -167,7 +212,7 @@ calm_before cs (out new) h = taken cs new h
     taken cs new h = subst (λ ds. take (length cs) ds ≡ cs) (sym h.1) (first cs h.0)
 calm_before cs (need k) h = tt
 
-calm_leaves : (cs : Changes) (o : Answer Changes Bool) → Leaves cs o → Calm cs o
+pub calm_leaves : (cs : Changes) (o : Answer Changes Bool) → Leaves cs o → Calm cs o
 calm_leaves cs (done true u new) h = h
 calm_leaves cs (done false u new) h = subst (λ ds. Begins cs ds) (sym h) (same cs)
 calm_leaves cs (failed m u new) h = absurd h
@@ -180,15 +225,33 @@ calm_and : (b : Bool) (m : Run Changes Bool) (u : ℕ) (cs : Changes) → Calm c
 calm_and true m u cs k = k
 calm_and false m u cs k = same cs
 
+calm_both : (f : Universe → Universe → Run Changes Bool) → ((l m : Universe) (u : ℕ) (cs : Changes) → Calm cs (f l m u cs))
+    → (x y : Option Sides) (u : ℕ) (cs : Changes) → Calm cs (by_both f x y u cs)
+calm_both f h (Some x) (Some y) u cs = search (calm, h, calm_and) depth 8
+calm_both f h (Some x) None u cs = same cs
+calm_both f h None y u cs = same cs
+
+calm_successors : (f : Universe → Universe → Run Changes Bool) → ((l m : Universe) (u : ℕ) (cs : Changes) → Calm cs (f l m u cs))
+    → (x y : Option Universe) (u : ℕ) (cs : Changes) → Calm cs (by_successors f x y u cs)
+calm_successors f h (Some x) (Some y) u cs = h x y u cs
+calm_successors f h (Some x) None u cs = same cs
+calm_successors f h None y u cs = same cs
+
+calm_level_parts : (f : Universe → Universe → Run Changes Bool) → ((l m : Universe) (u : ℕ) (cs : Changes) → Calm cs (f l m u cs))
+    → (l m : Universe) (u : ℕ) (cs : Changes) → Calm cs (by_level_parts f l m u cs)
+calm_level_parts f h (level_succ l) m u cs = calm_successors f h (Some l) (as_successor m) u cs
+calm_level_parts f h (level_max l k) m u cs = calm_both f h (Some (record { left = l; right = k })) (as_maximum m) u cs
+calm_level_parts f h (level_imax l k) m u cs = calm_both f h (Some (record { left = l; right = k })) (as_impredicative_maximum m) u cs
+calm_level_parts f h level_zero m u cs = same cs
+calm_level_parts f h (level_param k) m u cs = same cs
+calm_level_parts f h (level_meta k) m u cs = same cs
+
 calm_level_form : (f : Universe → Universe → Run Changes Bool) → ((l m : Universe) (u : ℕ) (cs : Changes) → Calm cs (f l m u cs))
-    → (l m : Universe) (u : ℕ) (cs : Changes) → Calm cs (by_level_form f l m u cs)
-calm_level_form f h (level_meta j) (level_meta k) u cs = search calm depth 8
-calm_level_form f h (level_meta k) m u cs = search calm depth 8
-calm_level_form f h l (level_meta k) u cs = search calm depth 8
-calm_level_form f h (level_succ l) (level_succ m) u cs = h l m u cs
-calm_level_form f h (level_max l m) (level_max j k) u cs = search (calm, h, calm_and) depth 8
-calm_level_form f h (level_imax l m) (level_imax j k) u cs = search (calm, h, calm_and) depth 8
-calm_level_form f h l m u cs = same cs
+    → (l m : Universe) (x y : Option ℕ) (u : ℕ) (cs : Changes) → Calm cs (by_level_form f l m x y u cs)
+calm_level_form f h l m (Some j) (Some k) u cs = search calm depth 8
+calm_level_form f h l m (Some j) None u cs = search calm depth 8
+calm_level_form f h l m None (Some k) u cs = search calm depth 8
+calm_level_form f h l m None None u cs = calm_level_parts f h l m u cs
 
 calm_level : (n : ℕ) (l m : Universe) (u : ℕ) (cs : Changes) → Calm cs (unify_level_within n l m u cs)
 calm_level zero l m u cs = same cs
@@ -200,7 +263,7 @@ calm_levels (l ∷ ls) (m ∷ ms) u cs = search (calm, calm_level, calm_and, cal
 calm_levels [] (m ∷ ms) u cs = same cs
 calm_levels (l ∷ ls) [] u cs = same cs
 
-calm_instantiated : (t : Term) (u : ℕ) (cs : Changes) → Calm cs (instantiated t u cs)
+pub calm_instantiated : (t : Term) (u : ℕ) (cs : Changes) → Calm cs (instantiated t u cs)
 calm_instantiated t u cs = search calm depth 8
 
 calm_abstraction : (C : Context) (T : Term) (ks : List ℕ) (t : Term) (u : ℕ) (cs : Changes) → Calm cs (abstraction C T ks t u cs)
@@ -253,22 +316,58 @@ module _ (c : Calls) (f : Unify) (h : (C : Context) (a b : Term) (u : ℕ) (cs :
   calm_lambda_right : (C : Context) (t A s : Term) (u : ℕ) (cs : Changes) → Calm cs (lambda_right f C t A s u cs)
   calm_lambda_right C t A s u cs = search (calm, h) depth 10
 
+  calm_sorts : (x y : Option Universe) (u : ℕ) (cs : Changes) → Calm cs (by_sorts x y u cs)
+  calm_sorts (Some l) (Some m) u cs = search (calm_decides, calm_level)
+  calm_sorts (Some l) None u cs = same cs
+  calm_sorts None y u cs = same cs
+
+  calm_pis : (C : Context) (x y : Option Binding) (u : ℕ) (cs : Changes) → Calm cs (by_pis f C x y u cs)
+  calm_pis C (Some x) (Some y) u cs = search (calm_decides, calm_binders)
+  calm_pis C (Some x) None u cs = same cs
+  calm_pis C None y u cs = same cs
+
+  calm_lambdas : (C : Context) (s t : Term) (x y : Option Binding) (u : ℕ) (cs : Changes) → Calm cs (by_lambdas f C s t x y u cs)
+  calm_lambdas C s t (Some x) (Some y) u cs = search (calm_decides, calm_binders)
+  calm_lambdas C s t (Some x) None u cs = search (calm_decides, calm_lambda_left)
+  calm_lambdas C s t None (Some y) u cs = search (calm_decides, calm_lambda_right)
+  calm_lambdas C s t None None u cs = same cs
+
+  calm_successor_left : (C : Context) (x : Option Applied) (y : Option ℕ) (u : ℕ) (cs : Changes) → Calm cs (successor_left f C x y u cs)
+  calm_successor_left C (Some x) (Some (suc n)) u cs = search (calm_predecessors, h)
+  calm_successor_left C (Some x) (Some zero) u cs = same cs
+  calm_successor_left C (Some x) None u cs = same cs
+  calm_successor_left C None y u cs = same cs
+
+  calm_successor_right : (C : Context) (x : Option ℕ) (y : Option Applied) (u : ℕ) (cs : Changes) → Calm cs (successor_right f C x y u cs)
+  calm_successor_right C (Some (suc n)) (Some y) u cs = search (calm_predecessors, h)
+  calm_successor_right C (Some zero) (Some y) u cs = same cs
+  calm_successor_right C (Some n) None u cs = same cs
+  calm_successor_right C None y u cs = same cs
+
   calm_form : (C : Context) (s t : Term) (u : ℕ) (cs : Changes) → Calm cs (by_form f C s t u cs)
-  calm_form C (sort l) (sort m) u cs = search (calm_decides, calm_level)
-  calm_form C (pi x A B) (pi y D E) u cs = search (calm_decides, calm_binders)
-  calm_form C (lam x A s) (lam y B t) u cs = search (calm_decides, calm_binders)
-  calm_form C (lam x A s) t u cs = search (calm_decides, calm_lambda_left)
-  calm_form C t (lam y B s) u cs = search (calm_decides, calm_lambda_right)
-  calm_form C (app r t) (lit (suc n)) u cs = search (calm_predecessors, h)
-  calm_form C (lit (suc n)) (app r t) u cs = search (calm_predecessors, h)
-  calm_form C s t u cs = same cs
+  calm_form C s t u cs = search (calm, calm_decided, calm_sorts, calm_pis, calm_lambdas, calm_successor_left, calm_successor_right) depth 20
+
+  calm_constants : (n : Path) (ls : List Universe) (x : Option Instance) (u : ℕ) (cs : Changes) → Calm cs (unify_constants n ls x u cs)
+  calm_constants n ls (Some x) u cs = search (calm, calm_levels)
+  calm_constants n ls None u cs = same cs
+
+  calm_projections : (C : Context) (S : Path) (i : ℕ) (t : Term) (x : Option Projection) (u : ℕ) (cs : Changes)
+      → Calm cs (unify_projections f C S i t x u cs)
+  calm_projections C S i t (Some x) u cs = search (calm, h)
+  calm_projections C S i t None u cs = same cs
 
   calm_heads : (C : Context) (s t : Term) (u : ℕ) (cs : Changes) → Calm cs (unify_heads f C s t u cs)
-  calm_heads C (const n ls) (const k ms) u cs = search (calm, calm_levels)
-  calm_heads C (free j) (free k) u cs = same cs
-  calm_heads C (meta j) (meta k) u cs = same cs
-  calm_heads C (proj S i s) (proj R j t) u cs = search (calm, h)
-  calm_heads C s t u cs = same cs
+  calm_heads C (const n ls) t u cs = calm_constants n ls (as_constant t) u cs
+  calm_heads C (proj S i s) t u cs = calm_projections C S i s (as_projection t) u cs
+  calm_heads C (free k) t u cs = same cs
+  calm_heads C (meta k) t u cs = same cs
+  calm_heads C (bound k) t u cs = same cs
+  calm_heads C (sort l) t u cs = same cs
+  calm_heads C (app r s) t u cs = same cs
+  calm_heads C (lam x A s) t u cs = same cs
+  calm_heads C (pi x A B) t u cs = same cs
+  calm_heads C (letin x A v s) t u cs = same cs
+  calm_heads C (lit n) t u cs = same cs
 
   calm_all : (C : Context) (xs ys : List Term) (u : ℕ) (cs : Changes) → Calm cs (unify_all f C xs ys u cs)
   calm_all C [] [] u cs = same cs

@@ -1,6 +1,6 @@
 -- The extension law of the unifier, rule by rule.
 use Rattle.std.proofs.Common.{ℕ, zero, suc, Bool, true, false, nat_eq, List, [], ◌∷◌, length, Option, Some, None, refl}
-use Rattle.lf_core.specs.Term.{Path, Universe, Term, free, meta, sort, const, app, lam, pi, lit, proj}
+use Rattle.lf_core.specs.Term.{Path, Universe, Term, bound, free, meta, sort, const, app, lam, pi, letin, lit, proj}
 use Rattle.lf_rules.specs.Environment.{Context}
 use Rattle.lf_checker.specs.View.{View, body_of}
 use Rattle.lf_checker.specs.Extends.{Tells}
@@ -11,11 +11,12 @@ use Rattle.lf_checker.specs.Equal.{Verdict, decided, again, undecided, of_body, 
 use Rattle.lf_extension_laws.specs.Extension as checking
 use Rattle.lf_extension_laws.proofs.Kept as kept_checker
 use Rattle.lf_extension_laws.proofs.Extended.{calls_kept}
+use Rattle.lf_elaboration.specs.Forms.{Binding, Applied, Projection, as_projection}
 use Rattle.lf_elaboration.specs.Metavariables.{Changes, types_of}
-use Rattle.lf_elaboration.specs.Run.{out, Run, gives, gives_up, spend, checks, type_unchecked, or_as_before}
+use Rattle.lf_elaboration.specs.LevelUnifier.{and_then}
+use Rattle.lf_elaboration.specs.Run.{Run, gives, spend, checks, type_unchecked, or_as_before}
 use Rattle.lf_elaboration.specs.Unifier.{
   Unify,
-  and_then,
   decided_by,
   or_else,
   decides,
@@ -32,7 +33,12 @@ use Rattle.lf_elaboration.specs.Unifier.{
   lambda_left,
   lambda_right,
   by_predecessors,
+  by_pis,
+  by_lambdas,
+  successor_left,
+  successor_right,
   by_form,
+  unify_projections,
   unify_heads,
   unify_all,
   unify_spines,
@@ -43,7 +49,7 @@ use Rattle.lf_elaboration.specs.Unifier.{
   unify,
 }
 use Rattle.lf_elaboration_laws.specs.Extension.{Kept, AgreeUnify, UnifierExtends}
-use Rattle.lf_elaboration_laws.proofs.Kept.{kept_self, kept_then, kept_choose, kept_or_fail, kept_spend, kept_answered, kept_before}
+use Rattle.lf_elaboration_laws.proofs.Kept.{kept_self, kept_then, kept_choose, kept_or_fail, kept_spend, kept_checks, kept_before}
 
 ruleset kept = (kept_self, kept_then, kept_choose, kept_or_fail, kept_spend)
 
@@ -68,11 +74,6 @@ kept_definition U V x _ u = refl
 
 kept_unfolding : (U V : View) → Tells V U → (l r : Term) (u : ℕ) → checking.Kept (by_unfolding U l r u) (by_unfolding V l r u)
 kept_unfolding U V x l r u = search (checked, kept_definition U V x) depth 8
-
--- the checker's calls
-
-kept_checks : {S A : Type 0} (m n : checker.Run A) (u : ℕ) (s : S) → checking.Kept (m u) (n u) → Kept (checks m u s) (checks n u s)
-kept_checks m n u s h = kept_answered (λ e. gives_up) (λ e. gives_up) s (m u) (n u) h (λ e v. kept_self (out s))
 
 module _ (c d : Calls) (a : checking.Agree c d) (f g : Unify) (h : AgreeUnify f g) where
   kept_without : (C : Context) (s t : Term) (u : ℕ) (cs : Changes) → Kept (without_metavariables c C s t u cs) (without_metavariables d C s t u cs)
@@ -137,22 +138,51 @@ module _ (c d : Calls) (a : checking.Agree c d) (f g : Unify) (h : AgreeUnify f 
       → Kept (by_predecessors n t m u cs) (by_predecessors n t k u cs)
   kept_predecessors n t m k u cs i = search (kept, kept_decides, i) depth 8
 
+  kept_pis : (C : Context) (x y : Option Binding) (u : ℕ) (cs : Changes) → Kept (by_pis f C x y u cs) (by_pis g C x y u cs)
+  kept_pis C (Some x) (Some y) u cs = search (kept_decides, kept_binders)
+  kept_pis C (Some x) None u cs = refl
+  kept_pis C None y u cs = refl
+
+  kept_lambdas : (C : Context) (s t : Term) (x y : Option Binding) (u : ℕ) (cs : Changes) → Kept (by_lambdas f C s t x y u cs) (by_lambdas g C s t x y u cs)
+  kept_lambdas C s t (Some x) (Some y) u cs = search (kept_decides, kept_binders)
+  kept_lambdas C s t (Some x) None u cs = search (kept_decides, kept_lambda_left)
+  kept_lambdas C s t None (Some y) u cs = search (kept_decides, kept_lambda_right)
+  kept_lambdas C s t None None u cs = refl
+
+  kept_successor_left : (C : Context) (x : Option Applied) (y : Option ℕ) (u : ℕ) (cs : Changes)
+      → Kept (successor_left f C x y u cs) (successor_left g C x y u cs)
+  kept_successor_left C (Some x) (Some (suc n)) u cs = search (kept_predecessors, h)
+  kept_successor_left C (Some x) (Some zero) u cs = refl
+  kept_successor_left C (Some x) None u cs = refl
+  kept_successor_left C None y u cs = refl
+
+  kept_successor_right : (C : Context) (x : Option ℕ) (y : Option Applied) (u : ℕ) (cs : Changes)
+      → Kept (successor_right f C x y u cs) (successor_right g C x y u cs)
+  kept_successor_right C (Some (suc n)) (Some y) u cs = search (kept_predecessors, h)
+  kept_successor_right C (Some zero) (Some y) u cs = refl
+  kept_successor_right C (Some n) None u cs = refl
+  kept_successor_right C None y u cs = refl
+
   kept_form : (C : Context) (s t : Term) (u : ℕ) (cs : Changes) → Kept (by_form f C s t u cs) (by_form g C s t u cs)
-  kept_form C (sort l) (sort m) u cs = kept_self (by_form g C (sort l) (sort m) u cs)
-  kept_form C (pi x A B) (pi y D E) u cs = search (kept_decides, kept_binders)
-  kept_form C (lam x A s) (lam y B t) u cs = search (kept_decides, kept_binders)
-  kept_form C (lam x A s) t u cs = search (kept_decides, kept_lambda_left)
-  kept_form C t (lam y B s) u cs = search (kept_decides, kept_lambda_right)
-  kept_form C (app r t) (lit (suc n)) u cs = search (kept_predecessors, h)
-  kept_form C (lit (suc n)) (app r t) u cs = search (kept_predecessors, h)
-  kept_form C s t u cs = kept_self (by_form g C s t u cs)
+  kept_form C s t u cs = search (kept, kept_decided, kept_pis, kept_lambdas, kept_successor_left, kept_successor_right) depth 20
+
+  kept_projections : (C : Context) (S : Path) (i : ℕ) (t : Term) (x : Option Projection) (u : ℕ) (cs : Changes)
+      → Kept (unify_projections f C S i t x u cs) (unify_projections g C S i t x u cs)
+  kept_projections C S i t (Some x) u cs = search (kept, h)
+  kept_projections C S i t None u cs = refl
 
   kept_heads : (C : Context) (s t : Term) (u : ℕ) (cs : Changes) → Kept (unify_heads f C s t u cs) (unify_heads g C s t u cs)
-  kept_heads C (const n ls) (const k ms) u cs = kept_self (unify_heads g C (const n ls) (const k ms) u cs)
-  kept_heads C (free j) (free k) u cs = refl
-  kept_heads C (meta j) (meta k) u cs = refl
-  kept_heads C (proj S i s) (proj R j t) u cs = search (kept, h)
-  kept_heads C s t u cs = kept_self (unify_heads g C s t u cs)
+  kept_heads C (proj S i s) t u cs = kept_projections C S i s (as_projection t) u cs
+  kept_heads C (const n ls) t u cs = kept_self (unify_heads g C (const n ls) t u cs)
+  kept_heads C (free k) t u cs = refl
+  kept_heads C (meta k) t u cs = refl
+  kept_heads C (bound k) t u cs = refl
+  kept_heads C (sort l) t u cs = refl
+  kept_heads C (app r s) t u cs = refl
+  kept_heads C (lam x A s) t u cs = refl
+  kept_heads C (pi x A B) t u cs = refl
+  kept_heads C (letin x A v s) t u cs = refl
+  kept_heads C (lit n) t u cs = refl
 
   kept_all : (C : Context) (xs ys : List Term) (u : ℕ) (cs : Changes) → Kept (unify_all f C xs ys u cs) (unify_all g C xs ys u cs)
   kept_all C [] [] u cs = refl

@@ -4,7 +4,7 @@ use Rattle.lf_checker.specs.Run as checker
 use Rattle.lf_checker.specs.Run.{Refusal}
 use Rattle.lf_extension_laws.specs.Extension as checking
 use Rattle.lf_elaboration.specs.Metavariables.{Changes}
-use Rattle.lf_elaboration.specs.Run.{Answer, done, failed, out, need, Run, go_on, choose, or_else_fail, spend, answered, as_before}
+use Rattle.lf_elaboration.specs.Run.{Answer, done, failed, out, need, Run, go_on, gives_up, choose, or_else_fail, spend, answered, checks, as_before}
 use Rattle.lf_elaboration_laws.specs.Extension.{Kept}
 
 pub kept_self : {S A : Type 0} (o : Answer S A) → Kept o o
@@ -44,6 +44,9 @@ kept_answered h k s (checker.done x u) p e f = subst (λ q. Kept (done x u s) (a
 kept_answered h k s (checker.refused r u) p e f = subst (λ q. Kept (h r u s) (answered k s q)) e (f r u)
 kept_answered {S} {A} h k s checker.out p e f = subst (λ q. Kept {A = A} (out s) (answered k s q)) e refl
 kept_answered h k s (checker.need n) p e f = tt
+
+pub kept_checks : {S A : Type 0} (m n : checker.Run A) (u : ℕ) (s : S) → checking.Kept (m u) (n u) → Kept (checks m u s) (checks n u s)
+kept_checks m n u s h = kept_answered (λ e. gives_up) (λ e. gives_up) s (m u) (n u) h (λ e v. kept_self (out s))
 
 pub kept_before : (cs : Changes) (o p : Answer Changes Bool) → Kept o p → Kept (as_before cs o) (as_before cs p)
 kept_before cs (done true u s) p h = subst (λ q. Kept (done true u s) (as_before cs q)) h refl

@@ -1,3 +1,15 @@
 pub mod Kept
 pub mod Extended
 pub mod Calm
+pub mod Parts
+pub mod Terms
+pub mod Steps
+pub mod Items
+pub mod Reached
+pub mod Realizing
+pub mod Keeping
+pub mod KeepingTerms
+pub mod KeepingItems
+pub mod Walking
+pub mod Wanted
+pub mod Closed

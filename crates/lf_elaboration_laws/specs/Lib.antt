@@ -1,2 +1,6 @@
 pub mod Extension
 pub mod Unifier
+pub mod Reached
+pub mod Keeping
+pub mod Needs
+pub mod Closed

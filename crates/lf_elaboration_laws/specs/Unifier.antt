@@ -1,5 +1,5 @@
 -- What the unifier leaves.
-use Rattle.std.specs.Prelude.{◌≡◌, ℕ, Bool, true, false, ◌++◌}
+use Rattle.std.specs.Prelude.{◌≡◌, ℕ, Bool, true, false, List, ◌++◌}
 use Rattle.lf_core.specs.Term.{Term}
 use Rattle.lf_rules.specs.Environment.{Context}
 use Rattle.lf_checker.specs.View.{View}
@@ -7,9 +7,9 @@ use Rattle.lf_elaboration.specs.Metavariables.{Changes}
 use Rattle.lf_elaboration.specs.Run.{Answer, done, failed, out, need}
 use Rattle.lf_elaboration.specs.Unifier.{unify}
 
--- Changes that begin with these.
-abbrev pub Begins : Changes → Changes → Type 0
-Begins cs new = (more : Changes) × (new ≡ cs ++ more)
+-- The second list begins with the first.
+abbrev pub Begins : {A : Type 0} → List A → List A → Type 0
+Begins {A} xs ys = (more : List A) × (ys ≡ xs ++ more)
 
 -- After false and after a spent budget the changes are these; after true they begin with them. There is no error.
 abbrev pub Leaves : Changes → Answer Changes Bool → Type 0

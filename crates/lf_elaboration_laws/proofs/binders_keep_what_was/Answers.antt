@@ -1,0 +1,5 @@
+use Rattle.lf_elaboration_laws.proofs.KeepingItems.{binder_keeps}
+use Rattle.lf_elaboration_laws.proofs.binders_keep_what_was.Goals as goal
+
+pub returns : goal.returns
+returns c = binder_keeps

@@ -1,0 +1,5 @@
+use Rattle.lf_elaboration_laws.proofs.KeepingItems.{closing_keeps}
+use Rattle.lf_elaboration_laws.proofs.closing_keeps_what_was.Goals as goal
+
+pub returns : goal.returns
+returns c = closing_keeps

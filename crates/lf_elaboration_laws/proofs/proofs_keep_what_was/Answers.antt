@@ -1,0 +1,5 @@
+use Rattle.lf_elaboration_laws.proofs.KeepingItems.{proofs_keep}
+use Rattle.lf_elaboration_laws.proofs.proofs_keep_what_was.Goals as goal
+
+pub returns : goal.returns
+returns c = proofs_keep
