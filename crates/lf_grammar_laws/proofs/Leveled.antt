@@ -71,7 +71,7 @@ use Rattle.lf_syntax.specs.Rows.{
 use Rattle.lf_text.specs.declared.word.Word.TheVariants as words
 use Rattle.lf_syntax.specs.Grammar.{grammar}
 use Rattle.lf_grammar_laws.specs.Laws.{LevelsKept}
-use Rattle.lf_grammar_laws.proofs.Found.{InRows, found}
+use Rattle.lf_grammar_lemmas.proofs.Found.{InRows, found}
 use Rattle.lf_grammar_laws.specs.Leveled.{
   term_level,
   Leveled,

@@ -7,7 +7,7 @@ use Rattle.lf_text.specs.Lexemes.{lexemes_of, starts_part, continues_part}
 use Rattle.lf_text.specs.Tokens.{tokens_of}
 use Rattle.lf_syntax.specs.Piece.{Piece}
 use Rattle.lf_syntax.specs.Classes.{pieces_of}
-use Rattle.lf_grammar_laws.specs.Laws.{outcome, answer_of, machine_command, machine_commands}
+use Rattle.lf_grammar_lemmas.specs.Outcome.{outcome, answer_of, machine_command, machine_commands}
 use Rattle.lf_syntax.specs.Document.{CommandsOf, IsCommand}
 use Rattle.lf_syntax.specs.declared.command.Command.{Command}
 use Rattle.lf_grammar_laws.specs.Worked.{
@@ -75,8 +75,8 @@ use Rattle.lf_grammar_laws.specs.Worked.{
   variables_text,
   reduction_text,
 }
-use Rattle.lf_grammar_laws.proofs.Grammar.{machine_answers}
-use Rattle.lf_grammar_laws.proofs.Document.{machine_document, machine_finds}
+use Rattle.lf_grammar_lemmas.proofs.Grammar.{machine_answers}
+use Rattle.lf_grammar_lemmas.proofs.Document.{machine_document, machine_finds}
 
 right : (t : Text) → answer_of (outcome (pieces_of t.bytes)) ≡ t.answer (pieces_of t.bytes) → Right t
 right t e = (machine_answers (pieces_of t.bytes) (t.answer (pieces_of t.bytes))).1 e

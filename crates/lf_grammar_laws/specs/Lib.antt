@@ -1,4 +1,3 @@
-pub mod Machine
 pub mod Laws
 pub mod Worked
 pub mod Leveled

@@ -1,7 +1,7 @@
 //! Laws of the grammar of commands: each public function's contract is one of them, and it does nothing.
 #![tactic(auto)]
 
-ghost use Rattle.lf_grammar_laws.specs.Laws.{
+ghost use Rattle.lf_grammar_lemmas.specs.Outcome.{
   OneAnswer,
   MachineAnswers,
   Complete,
@@ -12,9 +12,8 @@ ghost use Rattle.lf_grammar_laws.specs.Laws.{
   OneDocument,
   MachineDocument,
   NeverBad,
-  LevelsKept,
-  OperatorsBind,
 };
+ghost use Rattle.lf_grammar_laws.specs.Laws.{LevelsKept, OperatorsBind};
 ghost use Rattle.lf_grammar_laws.specs.Worked.{Worked};
 
 /// A list of tokens is a command with one tree, or bad at one place, or a beginning that ends early: exactly one of these.

@@ -6,9 +6,9 @@ use Rattle.unicode_ident.proofs.Computing.{unicode_ident}
 use Rattle.lf_text.specs.Lexemes.{lexemes_of, starts_part, continues_part}
 use Rattle.lf_text.specs.Tokens.{tokens_of}
 use Rattle.lf_syntax.specs.Classes.{pieces_of}
-use Rattle.lf_grammar_laws.specs.Laws.{outcome, answer_of}
+use Rattle.lf_grammar_lemmas.specs.Outcome.{outcome, answer_of}
 use Rattle.lf_grammar_laws.specs.Worked.{Text, Right}
-use Rattle.lf_grammar_laws.proofs.Grammar.{machine_answers}
+use Rattle.lf_grammar_lemmas.proofs.Grammar.{machine_answers}
 use Rattle.lf_grammar_texts.specs.EachRow as texts
 use Rattle.lf_grammar_texts.specs.EachRow.{EachRow}
 

@@ -1,4 +1,4 @@
-use Rattle.lf_grammar_laws.proofs.Grammar as laws
+use Rattle.lf_grammar_lemmas.proofs.Grammar as laws
 use Rattle.lf_grammar_laws.proofs.complete.Goals as goal
 
 pub returns : goal.returns

@@ -1,4 +1,4 @@
-use Rattle.lf_grammar_laws.proofs.Document as laws
+use Rattle.lf_grammar_lemmas.proofs.Document as laws
 use Rattle.lf_grammar_laws.proofs.never_bad.Goals as goal
 
 pub returns : goal.returns

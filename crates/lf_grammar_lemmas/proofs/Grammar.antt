@@ -27,13 +27,13 @@ use Rattle.lf_syntax.specs.Symbol.{Symbol, Tree, command}
 use Rattle.lf_syntax.specs.declared.command.Command.{Command}
 use Rattle.lf_syntax.specs.Row.{Prod}
 use Rattle.lf_syntax.specs.Grammar.{grammar, Derives, Begins, BadAt, EndsEarly, Answer, IsAnswer, is_command, is_bad, is_short}
-use Rattle.lf_grammar_laws.specs.Machine.{Outcome, Done, Stuck, Short}
-use Rattle.lf_grammar_laws.proofs.Follow.{Next, at_end, closer, at_colon, other, Asks, asks, allows, next_of, next, settled, serves}
-use Rattle.lf_grammar_laws.specs.Laws.{outcome, answer_of, OneAnswer, MachineAnswers, Complete, Sound, Completable, StuckIsLocal}
-use Rattle.lf_grammar_laws.proofs.Viable as viable
-use Rattle.lf_grammar_laws.proofs.Viable.{Viable}
-use Rattle.lf_grammar_laws.proofs.Kept.{body_serves}
-use Rattle.lf_grammar_laws.proofs.Closing.{closing, closes}
+use Rattle.lf_grammar_lemmas.specs.Machine.{Outcome, Done, Stuck, Short}
+use Rattle.lf_grammar_lemmas.proofs.Follow.{Next, at_end, closer, at_colon, other, Asks, asks, allows, next_of, next, settled, serves}
+use Rattle.lf_grammar_lemmas.specs.Outcome.{outcome, answer_of, OneAnswer, MachineAnswers, Complete, Sound, Completable, StuckIsLocal}
+use Rattle.lf_grammar_lemmas.proofs.Viable as viable
+use Rattle.lf_grammar_lemmas.proofs.Viable.{Viable}
+use Rattle.lf_grammar_lemmas.proofs.Kept.{body_serves}
+use Rattle.lf_grammar_lemmas.proofs.Closing.{closing, closes}
 
 and_left : (a b : Bool) → a && b ≡ true → a ≡ true
 and_left true b e = refl

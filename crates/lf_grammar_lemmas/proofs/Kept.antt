@@ -66,8 +66,8 @@ use Rattle.lf_syntax.specs.Symbol.{
 use Rattle.lf_syntax.specs.Row.{Row, Prod, first_row}
 use Rattle.lf_syntax.specs.Build.{is_underscore}
 use Rattle.lf_syntax.specs.Rows.{rows, group_names_rows_by}
-use Rattle.lf_grammar_laws.proofs.Follow.{Asks, asks, serves}
-use Rattle.lf_grammar_laws.proofs.Found.{InRows, found}
+use Rattle.lf_grammar_lemmas.proofs.Follow.{Asks, asks, serves}
+use Rattle.lf_grammar_lemmas.proofs.Found.{InRows, found}
 
 abbrev pub AllServe : {V : Type 0} → Asks → List (Row V) → Type 0
 AllServe {V} a rs = InRows (λ (p : Prod V). serves a p.body ≡ true) rs

@@ -13,9 +13,19 @@ use Rattle.lf_syntax.specs.declared.command.Decl.{Decl}
 use Rattle.lf_syntax.specs.Grammar.{grammar, Answer, IsAnswer, is_command, is_bad, is_short}
 use Rattle.lf_syntax.specs.Document.{first_deep, IsCommand, too_deep, derived, unexpected, unfinished, inside, AreCommands}
 use Rattle.lf_syntax.specs.Classes.{pieces_of}
-use Rattle.lf_grammar_laws.specs.Laws.{outcome, answer_of, command_for, machine_command, machine_commands, MachineDocument, OneCommand, OneDocument, NeverBad}
-use Rattle.lf_grammar_laws.proofs.Grammar.{machine_answers, one_of}
-use Rattle.lf_grammar_laws.proofs.Found.{InRows, found}
+use Rattle.lf_grammar_lemmas.specs.Outcome.{
+  outcome,
+  answer_of,
+  command_for,
+  machine_command,
+  machine_commands,
+  MachineDocument,
+  OneCommand,
+  OneDocument,
+  NeverBad,
+}
+use Rattle.lf_grammar_lemmas.proofs.Grammar.{machine_answers, one_of}
+use Rattle.lf_grammar_lemmas.proofs.Found.{InRows, found}
 
 command_by : (ts : List Piece) (a : Answer) → first_deep ts ≡ None → IsAnswer ts a → IsCommand ts (command_for ts a)
 command_by ts (is_command c) e h = derived c e h

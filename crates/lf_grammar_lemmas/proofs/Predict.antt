@@ -1,7 +1,7 @@
 -- The machine gives the tree of each derivation, and nothing else.
 use Rattle.std.proofs.Common.{◌≡◌, List, [], ◌∷◌, ◌++◌, Option, Some, None, refl, ap, ◌∙◌}
 use Rattle.lf_syntax.specs.Predictive.{Takes, join, Production, Grammar, Quiet, Reads, nothing, left_out, taken, tree}
-use Rattle.lf_grammar_laws.specs.Machine.{Stack, step, end, Outcome, Done, Stuck, ended, run}
+use Rattle.lf_grammar_lemmas.specs.Machine.{Stack, step, end, Outcome, Done, Stuck, ended, run}
 
 abbrev then : {R : Type 0} (g : Grammar) (t : g.T) (ts : List g.T) → Option (Stack g R) → Outcome g.T R
 then g t ts o = elim o [ None ↦ Stuck (t ∷ ts) | Some s ↦ run g ts s.symbols s.gives ]

@@ -1,8 +1,8 @@
 -- Where each stack can be finished, the machine is stuck exactly at the first token that doesn't belong.
 use Rattle.std.proofs.Common.{◌≡◌, List, [], ◌∷◌, ◌++◌, Option, Some, None, refl, sym, ap, ◌∙◌, append_assoc}
 use Rattle.lf_syntax.specs.Predictive.{Takes, join, Production, Grammar, Reads, nothing, left_out, taken, tree, Derives, Begins, BadAt, EndsEarly}
-use Rattle.lf_grammar_laws.specs.Machine.{Stack, step, end, Outcome, Done, Stuck, Short, ended, run}
-use Rattle.lf_grammar_laws.proofs.Predict.{complete, skip, take_step, sound, Gives}
+use Rattle.lf_grammar_lemmas.specs.Machine.{Stack, step, end, Outcome, Done, Stuck, Short, ended, run}
+use Rattle.lf_grammar_lemmas.proofs.Predict.{complete, skip, take_step, sound, Gives}
 
 -- Stacks that can be finished, and stay so.
 pub record Viable (g : Grammar) : Type 1 where

@@ -77,7 +77,22 @@ use Rattle.lf_syntax.specs.Row.{Prod, then, if_true, first_row}
 use Rattle.lf_syntax.specs.Build.{is_underscore, underscore_at}
 use Rattle.lf_syntax.specs.Rows.{group_names_rows_by}
 use Rattle.lf_syntax.specs.Grammar.{grammar}
-use Rattle.lf_grammar_laws.proofs.Follow.{Next, at_end, closer, at_colon, other, Asks, nothing_more, calm_next, no_colon, asks, allows, next_of, next, settled}
+use Rattle.lf_grammar_lemmas.proofs.Follow.{
+  Next,
+  at_end,
+  closer,
+  at_colon,
+  other,
+  Asks,
+  nothing_more,
+  calm_next,
+  no_colon,
+  asks,
+  allows,
+  next_of,
+  next,
+  settled,
+}
 
 abbrev pub of_word : Word → Piece
 of_word w = record { class = piece.word w; at = 0; «end» = 0; nesting = 0 }
