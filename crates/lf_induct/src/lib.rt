@@ -1,7 +1,7 @@
 //! The test of inductive declarations, and the constants that they add.
 #![tactic(auto)]
 
-mod admit;
+mod admission;
 mod constants;
 mod constructor;
 mod elimination;
@@ -12,5 +12,4 @@ mod front;
 mod levels;
 mod read;
 
-pub use admit::admit_over;
-pub use constants::type_alone;
+pub use admission::admit;

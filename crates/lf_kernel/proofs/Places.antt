@@ -3,7 +3,22 @@ use Rattle.std.specs.Prelude.{Result}
 use Rattle.std.proofs.Common.{◌≡◌, ℕ, suc, Bool, true, false, cond, List, [], ◌∷◌, Option, Some, None, refl, sym, ◌∙◌, ap, subst}
 use Rattle.lf_core.specs.Term.{Path}
 use Rattle.lf_core.specs.Same.{same_path}
-use Rattle.lf_checker.specs.View.{View, Entry, Lookup, There, there, not_there, not_known, find_entry, placed_from, placed_of, lookup_of, no_entry, there_by, there_of}
+use Rattle.lf_checker.specs.View.{
+  View,
+  Entry,
+  Lookup,
+  There,
+  there,
+  not_there,
+  not_known,
+  find_entry,
+  placed_from,
+  placed_of,
+  lookup_of,
+  no_entry,
+  there_by,
+  there_of,
+}
 use Rattle.lf_checker.specs.Run.{Run, go_on, gives}
 use Rattle.lf_checker.specs.Checker.{unless_there}
 use Rattle.lf_steps.specs.declared.halt.Halt.{Halt}

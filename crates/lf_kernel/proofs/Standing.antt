@@ -1,9 +1,9 @@
 -- What is kept beside a term says whether it stands on its own.
-use Rattle.std.proofs.Common.{◌≡◌, ℕ, zero, suc, ◌+◌, ◌<◌, ◌≤◌, Bool, true, false, not, ◌&&◌, ◌||◌, nat_lt, refl, sym, ◌∙◌, ap, true≢false, arith}
+use Rattle.std.proofs.Common.{◌≡◌, ℕ, suc, ◌+◌, ◌<◌, ◌≤◌, true, false, ◌&&◌, ◌||◌, nat_lt, refl, sym, ◌∙◌, true≢false, arith}
 use Rattle.std.proofs.lemmas.Bool.{or_parts, or_from, and_parts, and_from, not_from_false, not-true, false_from_ne_true}
 use Rattle.std.proofs.lemmas.Bool.Decides.{nat_tests}
 use Rattle.lf_core.specs.Term.{Term, bound, free, meta, sort, const, app, lam, pi, letin, lit, proj}
-use Rattle.lf_core.specs.Summary.{loose_bound, free_bound, has_metavariable, has_level_metavariable, level_has_metavariable, levels_have_metavariable}
+use Rattle.lf_core.specs.Summary.{loose_bound, free_bound, has_metavariable, has_level_metavariable}
 use Rattle.lf_checker.specs.Checker.{is_closed, is_closed_under}
 
 below : (i d : ℕ) → i + 1 ≤ d → nat_lt i d ≡ true
@@ -94,7 +94,9 @@ closed d (letin x a v b) h =
       level_metavariable = or_from _ _ p.level_metavariable (or_from _ _ r.level_metavariable q.level_metavariable);
     }
 closed d (lit n) h = record { loose = omega arith; free = omega arith; metavariable = refl; level_metavariable = refl }
-closed d (proj s i t) h = let p = closed d t h in record { loose = p.loose; free = p.free; metavariable = p.metavariable; level_metavariable = p.level_metavariable }
+closed d (proj s i t) h =
+    let p = closed d t h in
+    record { loose = p.loose; free = p.free; metavariable = p.metavariable; level_metavariable = p.level_metavariable }
 
 pub closed_by : (t : Term) → loose_bound t ≤ 0 → free_bound t ≤ 0 → has_metavariable t ≡ false → has_level_metavariable t ≡ false → is_closed t ≡ true
 closed_by t l f m v = closed_under 0 t l f m v

@@ -1,14 +1,18 @@
 //! The calls of the kernel, over a view, a budget and a stop.
 ghost use Rattle.std.specs.Prelude.{◌≡◌, ◌≤◌};
+ghost use Rattle.lf_checker.specs.Admission as admission;
 ghost use Rattle.lf_checker.specs.Checker as spec;
 ghost use Rattle.lf_check.specs.Answers.{Answers, StopsOnly};
+ghost use Rattle.lf_induct.specs.Parts.{answer_map};
 
 use crate::decl::decl;
 use crate::header::header;
+use crate::inductive::unless_declared;
 use lf_base::Stop;
 use lf_check::{CheckCx, Cx, ended};
 use lf_checker::TypeFault;
-use lf_core::{Ans, ConstInfo, Expr, Level, Name};
+use lf_core::{Ans, ConstInfo, Expr, IndDecl, Level, Name};
+use lf_induct::admit;
 use std::alloc::Global;
 
 /// The level of the sort of a stated type. The context's variables aren't read: a header stands on its own.
@@ -79,5 +83,38 @@ pub fn add_decl<P: Stop>(
             Ans::Done(height)
         }
         Err(halt) => ended(&mut cx.opened, &mut cx.budget.units, halt, left),
+    }
+}
+
+/// The constants that an inductive declaration adds: its type, its constructors and its recursor. The context's variables
+/// aren't read.
+/// Refused as not closed; as a duplicate for the first of the type's name, the constructors' and the recursor's that isn't
+/// new, with the entry's position, or the view's for a constructor's name that the declaration itself gives twice; or as
+/// `lf_induct::admit` refuses. Out, Need, Stopped and NoMemory as `admit` answers them, and Need where an open branch may
+/// give a name. After all but Done and Refused no units are left. docs/language.md, 'What is added to an environment'.
+pub fn add_inductive<P: Stop>(
+    alloc: Global,
+    cx: &mut CheckCx<'_, P>,
+    decl: &IndDecl,
+) -> Ans<Vec<ConstInfo>, TypeFault>
+    ensures value { Answers (admission.add_inductive cx.old.view.now cx.old.budget.depth decl.now cx.old.budget.units) (answer_map (λ v. v.items) result)
+        cx.new.budget.units cx.new.opened.items }
+    ensures kept { cx.new.locals.items ≡ cx.old.locals.items }
+    ensures nesting { cx.new.budget.depth ≡ cx.old.budget.depth }
+    ensures count { P.stops cx.old.stop.now ≤ P.stops cx.new.stop.now }
+    ensures stops { StopsOnly result (P.stops cx.old.stop.now) (P.stops cx.new.stop.now) }
+{
+    let mut left = cx.budget.units;
+    let tested = unless_declared(alloc, cx.view, &mut left, decl);
+    match tested {
+        Ok(()) => {
+            cx.budget.units = left;
+            admit(alloc, cx, decl)
+        }
+        Err(halt) => {
+            cx.budget.units = 0;
+            cx.opened = Vec::new(alloc);
+            ended(&mut cx.opened, &mut cx.budget.units, halt, left)
+        }
     }
 }

@@ -1,8 +1,9 @@
 //! Terms that stand on their own.
 ghost use Rattle.std.specs.Prelude.{◌≡◌};
+ghost use Rattle.lf_checker.specs.Admission as admission;
 ghost use Rattle.lf_checker.specs.Checker as spec;
 
-use lf_core::Expr;
+use lf_core::{CtorInfo, Expr};
 
 /// Whether a term has no metavariable of terms or of levels, no free variable and no loose bound one. It reads what is kept
 /// beside the term.
@@ -33,4 +34,16 @@ pub fn is_value_closed(value: &Option<Expr>) -> bool
         Some(value) => is_closed(value),
         None => true,
     }
+}
+
+/// The same of the constructors' types.
+pub fn are_closed(ctors: &[CtorInfo]) -> bool
+    ensures { result ≡ admission.are_closed ctors.now }
+{
+    'constructors: for ctor in ctors {
+        if !is_closed(&ctor.ty) {
+            return false;
+        }
+    }
+    true
 }

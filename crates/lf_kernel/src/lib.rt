@@ -1,4 +1,4 @@
-//! What the kernel lets into an environment: headers, definitions and theorems.
+//! What the kernel lets into an environment: headers, definitions, theorems and inductive types.
 #![tactic(auto)]
 
 mod calls;
@@ -7,5 +7,6 @@ mod decl;
 mod fresh;
 mod header;
 mod height;
+mod inductive;
 
-pub use calls::{add_decl, add_header};
+pub use calls::{add_decl, add_header, add_inductive};

@@ -1,20 +1,33 @@
 -- From what the definition answers, and what its answers are worth, to the calls.
-use Rattle.std.proofs.Common.{◌≡◌, ℕ, true, Bool, Some, List, [], length, subst, sym, ap}
-use Rattle.lf_core.specs.Term.{Path, Universe, Term, sort}
+use Rattle.std.proofs.Common.{◌≡◌, ℕ, true, Bool, List, subst, sym}
+use Rattle.lf_core.specs.Term.{Path, Universe, Term}
 use Rattle.lf_core.specs.declared.constant.ConstInfo.{ConstInfo}
+use Rattle.lf_core.specs.declared.constant.IndDecl.{IndDecl}
 use Rattle.lf_core.specs.declared.constant.Ans.{Ans}
 use Rattle.lf_core.specs.declared.constant.Ans.TheVariants.{Done, Refused, Out, Need, Stopped, NoMemory}
-use Rattle.lf_rules.specs.Environment.{Environment, Context}
+use Rattle.lf_rules.specs.Environment.{Context}
 use Rattle.lf_checker.specs.View.{View}
 use Rattle.lf_checker.specs.Run.{Answer}
 use Rattle.lf_checker.specs.Calls.{checked}
 use Rattle.lf_checker.specs.Checker.{calls, add_header, add_decl}
+use Rattle.lf_checker.specs.Admission.{add_inductive}
 use Rattle.lf_checker.specs.declared.fault.TypeFault.{TypeFault}
 use Rattle.lf_check.specs.Answers.{Answers}
 use Rattle.lf_checker_laws.specs.Soundness.{Post}
 use Rattle.lf_checker_laws.proofs.All.{calls_sound}
 use Rattle.lf_checker_laws.proofs.Accepted.{accepted_is_derived}
-use Rattle.lf_kernel_laws.specs.Calls.{IfDone, GivesEqual, AreEqual, GivesType, GivesLevel, StatesConstant, KeepsDerived}
+use Rattle.lf_admission_laws.proofs.All.{admission_is_sound}
+use Rattle.lf_kernel_laws.specs.Calls.{
+  IfDone,
+  GivesEqual,
+  AreEqual,
+  GivesType,
+  GivesLevel,
+  StatesConstant,
+  KeepsDerived,
+  AdmitsDeclaration,
+  KeepsDerivedWith,
+}
 
 says : {A : Type 0} (P : A → Type 0) (o : Answer A) (r : Ans A TypeFault) (u : ℕ) (names : List Path) → Answers o r u names → Post P o → IfDone r P
 says P o (Done a) u names h p = subst (Post P) h.0 p
@@ -61,3 +74,13 @@ pub value_is_derived : (V : View) (depth : ℕ) (c : ConstInfo) (u : ℕ) (r : A
     → Answers (add_decl V depth c u) r left names → KeepsDerived V c r
 value_is_derived V depth c u r left names h E v derived knows beside stated kind has asked =
     says _ _ r left names h ((accepted_is_derived V E derived knows beside depth).value c v u stated kind has asked)
+
+pub declaration_is_admitted : (V : View) (depth : ℕ) (d : IndDecl) (u : ℕ) (r : Ans (List ConstInfo) TypeFault) (left : ℕ) (names : List Path)
+    → Answers (add_inductive V depth d u) r left names → AdmitsDeclaration V d r
+declaration_is_admitted V depth d u r left names h E derived knows beside named =
+    says _ _ r left names h ((admission_is_sound V E derived knows beside depth).admitted d u named)
+
+pub declaration_is_derived : (V : View) (depth : ℕ) (d : IndDecl) (u : ℕ) (r : Ans (List ConstInfo) TypeFault) (left : ℕ) (names : List Path)
+    → Answers (add_inductive V depth d u) r left names → KeepsDerivedWith V d r
+declaration_is_derived V depth d u r left names h E derived knows beside named =
+    says _ _ r left names h ((admission_is_sound V E derived knows beside depth).derived d u named)

@@ -2,6 +2,7 @@
 use Rattle.std.specs.Prelude.{◌≡◌, ◌⊎◌, ℕ, true, Bool, Some, List, [], ◌∷◌, ◌++◌, length}
 use Rattle.lf_core.specs.Term.{Path, Universe, Term, sort}
 use Rattle.lf_core.specs.declared.constant.ConstInfo.{ConstInfo}
+use Rattle.lf_core.specs.declared.constant.IndDecl.{IndDecl}
 use Rattle.lf_core.specs.declared.constant.Ans.{Ans}
 use Rattle.lf_core.specs.declared.constant.Ans.TheVariants.{Done, Refused, Out, Need, Stopped, NoMemory}
 use Rattle.lf_core.specs.declared.constant.ConstKind.TheVariants.{Def, Theorem}
@@ -13,6 +14,8 @@ use Rattle.lf_checker.specs.View.{View}
 use Rattle.lf_checker.specs.declared.fault.TypeFault.{TypeFault}
 use Rattle.lf_checker_laws.specs.Soundness.{ClosedList, Names, Fits, ContextFits, Typed, Reduct}
 use Rattle.lf_checker_laws.specs.Declarations.{Asked, HasEntry, Knows, HasBeside}
+use Rattle.lf_admission_laws.specs.Admission as admission
+use Rattle.lf_admission_laws.specs.Admission.{Admits}
 
 -- What is said of the value, where there is one.
 abbrev pub IfDone : {A : Type 0} → Ans A TypeFault → (A → Type 0) → Type 0
@@ -51,3 +54,11 @@ StatesConstant V n ty r = (E : Environment) (c : ConstInfo) → Derived E → Kn
 abbrev pub KeepsDerived : View → ConstInfo → Ans ℕ TypeFault → Type 0
 KeepsDerived V c r = (E : Environment) (v : Term) → Derived E → Knows V E → HasBeside V E → Stated E c → (c.kind ≡ Def) ⊎ (c.kind ≡ Theorem)
     → c.value ≡ Some v → Asked V E (length c.levels) v → IfDone r (λ h. Derived (E ++ c ∷ []))
+
+-- The constants that are given are those of the declaration, which is admitted under new names over a derived list that the view knows.
+abbrev pub AdmitsDeclaration : View → IndDecl → Ans (List ConstInfo) TypeFault → Type 0
+AdmitsDeclaration V d r = (E : Environment) → Derived E → Knows V E → HasBeside V E → admission.Names V E d → IfDone r (Admits E d)
+
+-- With the constants that are given the list stays derived.
+abbrev pub KeepsDerivedWith : View → IndDecl → Ans (List ConstInfo) TypeFault → Type 0
+KeepsDerivedWith V d r = (E : Environment) → Derived E → Knows V E → HasBeside V E → admission.Names V E d → IfDone r (λ given. Derived (E ++ given))

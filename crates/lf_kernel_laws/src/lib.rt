@@ -1,12 +1,13 @@
 //! What the answers of the kernel's calls are worth: each call once more, with the law as its contract.
 #![tactic(auto)]
 
-ghost use Rattle.lf_kernel_laws.specs.Calls.{AreEqual, GivesEqual, GivesType, GivesLevel, KeepsDerived, StatesConstant};
+ghost use Rattle.lf_induct.specs.Parts.{answer_map};
+ghost use Rattle.lf_kernel_laws.specs.Calls.{AdmitsDeclaration, AreEqual, GivesEqual, GivesType, GivesLevel, KeepsDerived, KeepsDerivedWith, StatesConstant};
 
 use lf_base::Stop;
 use lf_check::CheckCx;
 use lf_checker::TypeFault;
-use lf_core::{Ans, ConstInfo, Expr, Level, Name};
+use lf_core::{Ans, ConstInfo, Expr, IndDecl, Level, Name};
 use std::alloc::Global;
 
 /// A weak head form is equal to the term.
@@ -70,4 +71,17 @@ pub fn add_decl<P: Stop>(
     ensures { KeepsDerived cx.old.view.now info.now result }
 {
     lf_kernel::add_decl(alloc, cx, info)
+}
+
+/// What is accepted is admitted, and with the constants that are given a derived list stays derived.
+#[tactic(auto, using(crate::proofs::Calls::declaration_is_admitted, crate::proofs::Calls::declaration_is_derived))]
+pub fn add_inductive<P: Stop>(
+    alloc: Global,
+    cx: &mut CheckCx<'_, P>,
+    decl: &IndDecl,
+) -> Ans<Vec<ConstInfo>, TypeFault>
+    ensures admitted { AdmitsDeclaration cx.old.view.now decl.now (answer_map (λ v. v.items) result) }
+    ensures derived { KeepsDerivedWith cx.old.view.now decl.now (answer_map (λ v. v.items) result) }
+{
+    lf_kernel::add_inductive(alloc, cx, decl)
 }

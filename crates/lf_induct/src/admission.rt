@@ -14,7 +14,7 @@ ghost use Rattle.lf_steps.specs.Runs.{RunsAs, Rose};
 ghost use Rattle.lf_check.specs.Answers.{Answers, StopsOnly};
 ghost use Rattle.lf_induct.specs.Parts as parts;
 
-use crate::constants::given;
+use crate::constants::{given, type_alone};
 use crate::constructor::admit_constructors;
 use crate::elimination::eliminates_everywhere;
 use crate::family::own_family;
@@ -71,18 +71,52 @@ fn admit_all<P: Stop>(
     given(cx.alloc, units, decl, large)
 }
 
-// The constructors in the view that has the type alone. Where the name is an entry already, that entry hides the type, and
-// the view tells what it told.
-#[tactic(auto, using(crate::proofs::Shadowed::judged_there))]
-fn admit_typed<P: Stop>(
+// The view with the type alone at its own position.
+fn with_type(alloc: Global, view: &View, decl: &IndDecl) -> Result<View, NoMemory>
+    requires { placed_of view.now decl.now.name ≡ None }
+    ensures { IfOk result (λ v. v ≡ spec.view_with_type view.now decl.now) }
+{
+    let mut typed = view.share()?;
+    let ty = type_alone(alloc, decl)?;
+    typed.push(ty, view.position())?;
+    Ok(typed)
+}
+
+// The constructors, judged in the view with the type alone.
+fn admit_beside<P: Stop>(
     cx: Cx<'_>,
-    typed: &View,
     units: &mut u64,
     stop: &mut P,
     decl: &IndDecl,
     wanted: &Level,
 ) -> Result<Vec<ConstInfo>, Halt>
-    requires { placed_of cx.view.now decl.now.name ≡ None → typed.now ≡ spec.view_with_type cx.view.now decl.now }
+    requires { placed_of cx.view.now decl.now.name ≡ None }
+    ensures value { RunsAs (λ v. v.items) (parts.admit_all (calls (spec.view_with_type cx.entry.view.now decl.now) cx.entry.depth) decl.now wanted.now
+        units.old) result units.new }
+    ensures count { P.stops stop.old ≤ P.stops stop.new }
+    ensures rose { Rose result (P.stops stop.old) (P.stops stop.new) }
+{
+    let typed = with_type(cx.alloc, cx.view, decl)?;
+    let inner = Cx {
+        alloc: cx.alloc,
+        view: &typed,
+        depth: cx.depth,
+    };
+    let admitted = admit_all(inner, units, stop, decl, wanted);
+    drop(typed);
+    admitted
+}
+
+// The constructors in the view that has the type alone. Where the name is an entry already, that entry hides the type, and
+// the view tells what it told.
+#[tactic(auto, using(crate::proofs::Shadowed::judged_there))]
+fn admit_typed<P: Stop>(
+    cx: Cx<'_>,
+    units: &mut u64,
+    stop: &mut P,
+    decl: &IndDecl,
+    wanted: &Level,
+) -> Result<Vec<ConstInfo>, Halt>
     ensures value { RunsAs (λ v. v.items) (parts.admit_all (calls (spec.view_with_type cx.entry.view.now decl.now) cx.entry.depth) decl.now wanted.now
         units.old) result units.new }
     ensures count { P.stops stop.old ≤ P.stops stop.new }
@@ -90,14 +124,7 @@ fn admit_typed<P: Stop>(
 {
     match cx.view.placed(&decl.name) {
         Some(_) => admit_all(cx, units, stop, decl, wanted),
-        None => {
-            let inner = Cx {
-                alloc: cx.alloc,
-                view: typed,
-                depth: cx.depth,
-            };
-            admit_all(inner, units, stop, decl, wanted)
-        }
+        None => admit_beside(cx, units, stop, decl, wanted),
     }
 }
 
@@ -105,12 +132,10 @@ fn admit_typed<P: Stop>(
 #[tactic(auto, using(lf_steps::proofs::Runs::halts), unfolding(crate::specs::Parts::admit_all, crate::specs::Parts::given))]
 fn admit_within<P: Stop>(
     cx: Cx<'_>,
-    typed: &View,
     units: &mut u64,
     stop: &mut P,
     decl: &IndDecl,
 ) -> Result<Vec<ConstInfo>, Halt>
-    requires { placed_of cx.view.now decl.now.name ≡ None → typed.now ≡ spec.view_with_type cx.view.now decl.now }
     ensures value { RunsAs (λ v. v.items) (spec.admit cx.entry.view.now cx.entry.depth decl.now units.old) result units.new }
     ensures count { P.stops stop.old ≤ P.stops stop.new }
     ensures rose { Rose result (P.stops stop.old) (P.stops stop.new) }
@@ -119,24 +144,21 @@ fn admit_within<P: Stop>(
     sort_of(cx, &mut locals, units, stop, Mode::Checked, &decl.ty)?;
     match shape_of(decl)? {
         None => Err(Halt::Refused(refusal(cx.alloc, TypeFault::BadType))),
-        Some(wanted) => admit_typed(cx, typed, units, stop, decl, wanted),
+        Some(wanted) => admit_typed(cx, units, stop, decl, wanted),
     }
 }
 
 /// The constants that the declaration adds: its type, its constructors and its recursor (docs/language.md, Inductive types;
-/// that its types are closed and its names new isn't tested here). Where its
-/// name is no entry of the view of `cx`, `typed` is that view with the type alone at its position; else it isn't looked at.
+/// that its types are closed and its names new isn't tested here). The view and the context's variables are as before.
 /// Done with the value, or Refused, with the units that the definition leaves; Out exactly where units, nesting or depth
 /// don't suffice; Need exactly where the definition's first read that can't be answered yet stands; Stopped only where
 /// the count of stops rose; or NoMemory. After all but Done and Refused no units are left.
 #[tactic(auto, using(lf_check::proofs::Ends::ends_answers))]
-pub fn admit_over<P: Stop>(
+pub fn admit<P: Stop>(
     alloc: Global,
     cx: &mut CheckCx<'_, P>,
-    typed: &View,
     decl: &IndDecl,
 ) -> Ans<Vec<ConstInfo>, TypeFault>
-    requires { placed_of cx.old.view.now decl.now.name ≡ None → typed.now ≡ spec.view_with_type cx.old.view.now decl.now }
     ensures value { Answers (spec.admit cx.old.view.now cx.old.budget.depth decl.now cx.old.budget.units) (parts.answer_map (λ v. v.items) result)
         cx.new.budget.units
         cx.new.opened.items }
@@ -151,7 +173,7 @@ pub fn admit_over<P: Stop>(
         depth: cx.budget.depth,
     };
     let mut left = cx.budget.units;
-    let given = admit_within(inner, typed, &mut left, cx.stop, decl);
+    let given = admit_within(inner, &mut left, cx.stop, decl);
     cx.budget.units = 0;
     cx.opened = Vec::new(alloc);
     match given {
