@@ -10,13 +10,13 @@ use Rattle.lf_view_laws.specs.Fuller.{Fuller, JoinsChildren}
 use Rattle.lf_view_laws.specs.Worked.{foo, foo_, definition, whole, waiting, joined, settled, WorkedViews}
 use Rattle.lf_view_laws.proofs.Views.{fuller_views}
 
-no_two : DistinctNames []
+pub no_two : DistinctNames []
 no_two i j d h l = absurd (omega arith)
 
 one_alone : (c : ConstInfo) → DistinctNames (c ∷ [])
 one_alone c i j d h l = absurd (omega arith)
 
-can_join : CanJoin waiting 3 (whole (foo_ "aux") ∷ whole foo ∷ [])
+pub can_join : CanJoin waiting 3 (whole (foo_ "aux") ∷ whole foo ∷ [])
 can_join = record {
   helpers = whole (foo_ "aux") ∷ [];
   header = whole foo;
@@ -37,7 +37,7 @@ joins = record {
       (All-cons (λ (c : ConstInfo). is_axiom c.kind ≡ false) (whole foo) [] refl (All-nil (λ (c : ConstInfo). is_axiom c.kind ≡ false)));
 }
 
-can_answer : CanAnswer joined (foo_ "eq_1") None
+pub can_answer : CanAnswer joined (foo_ "eq_1") None
 unfolding suffix_of equation_of
 can_answer = record { no_entry = refl; not_realized = refl; not_failed = refl; fitting = refl; named = tt }
 

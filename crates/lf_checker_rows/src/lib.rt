@@ -1,0 +1,6 @@
+//! What the checker answers on small terms, over the numbers and equality.
+#![tactic(auto)]
+
+mod known;
+#[cfg(test)]
+mod tests;

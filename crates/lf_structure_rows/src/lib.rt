@@ -1,0 +1,6 @@
+//! What the checker answers on projections and structures.
+#![tactic(auto)]
+
+mod known;
+#[cfg(test)]
+mod tests;
