@@ -1,0 +1,4 @@
+pub mod Candidate
+pub mod Attempt
+pub mod Tree
+pub mod Walk

@@ -1,0 +1,3 @@
+mod Extended
+mod Ends
+mod Least
