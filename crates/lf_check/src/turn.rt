@@ -12,7 +12,7 @@ ghost use Rattle.lf_check.specs.Steps as steps;
 ghost use Rattle.lf_check.specs.Tower as tower;
 ghost use Rattle.std.specs.Option.{option_copied};
 
-use lf_core::{Expr, ExprNode, Level, LitOut, Name, NoMemory, copy_levels};
+use lf_core::{Expr, ExprNode, Level, LitOut, Name, NoMemory, copy_all};
 use lf_env::View;
 use lf_lit::{apply as compute, operation};
 use lf_steps::{
@@ -150,7 +150,7 @@ pub fn projected(
 fn own_levels(alloc: Global, levels: &[Level]) -> Result<sqlite_items::Items<Level>, NoMemory>
     ensures { IfOk result (λ all. all ≡ drop 1 levels.now) }
 {
-    copy_levels(alloc, &levels[levels.len().min(1)..])
+    copy_all(alloc, &levels[levels.len().min(1)..])
 }
 
 /// The constructor `name` at the recursor's parameters, as it takes the place of a major premise.

@@ -3,7 +3,7 @@ ghost use Rattle.std.specs.Prelude.{◌≡◌, IfOk};
 
 use crate::expr::Expr;
 use lf_base::NoMemory;
-use lf_name::Name;
+use lf_name::{Copied, Name, copy_all};
 use sqlite_items::Items;
 use std::alloc::Global;
 
@@ -93,38 +93,6 @@ pub enum Ans<T, F> {
     NoMemory,
 }
 
-/// A list equal to `names`.
-pub fn copy_names(alloc: Global, names: &[Name]) -> Result<Items<Name>, NoMemory>
-    ensures { IfOk result (λ all. all ≡ names.now) }
-{
-    let mut all = Items::new(alloc);
-    for name in names {
-        all.push(name.copy(alloc)?)?;
-    }
-    Ok(all)
-}
-
-/// A list equal to `terms`.
-pub fn copy_terms(alloc: Global, terms: &[Expr]) -> Result<Items<Expr>, NoMemory>
-    ensures { IfOk result (λ all. all ≡ terms.now) }
-{
-    let mut all = Items::new(alloc);
-    for term in terms {
-        all.push(term.copy(alloc)?)?;
-    }
-    Ok(all)
-}
-
-fn copy_ctors(alloc: Global, ctors: &[CtorInfo]) -> Result<Items<CtorInfo>, NoMemory>
-    ensures { IfOk result (λ all. all ≡ ctors.now) }
-{
-    let mut all = Items::new(alloc);
-    for ctor in ctors {
-        all.push(ctor.copy(alloc)?)?;
-    }
-    Ok(all)
-}
-
 fn copy_value(alloc: Global, value: &Option<Expr>) -> Result<Option<Expr>, NoMemory>
     ensures { IfOk result (λ v. v ≡ value.now) }
 {
@@ -158,7 +126,7 @@ impl Detail {
             } => Ok(Detail::Ind {
                 params: *params,
                 indices: *indices,
-                ctors: copy_names(alloc, ctors.as_slice())?,
+                ctors: copy_all(alloc, ctors.as_slice())?,
                 large: *large,
             }),
             Detail::Ctor {
@@ -183,7 +151,7 @@ impl Detail {
                 params: *params,
                 minors: *minors,
                 indices: *indices,
-                rules: copy_terms(alloc, rules.as_slice())?,
+                rules: copy_all(alloc, rules.as_slice())?,
             }),
         }
     }
@@ -197,7 +165,7 @@ impl ConstInfo {
         Ok(ConstInfo {
             name: self.name.copy(alloc)?,
             kind: self.kind,
-            levels: copy_names(alloc, self.levels.as_slice())?,
+            levels: copy_all(alloc, self.levels.as_slice())?,
             ty: self.ty.copy(alloc)?,
             value: copy_value(alloc, &self.value)?,
             height: self.height,
@@ -218,6 +186,12 @@ impl CtorInfo {
     }
 }
 
+impl Copied for CtorInfo {
+    fn copied(&self, alloc: Global) -> Result<CtorInfo, NoMemory> {
+        self.copy(alloc)
+    }
+}
+
 impl IndDecl {
     /// A copy equal to this.
     pub fn copy(&self, alloc: Global) -> Result<IndDecl, NoMemory>
@@ -225,10 +199,10 @@ impl IndDecl {
     {
         Ok(IndDecl {
             name: self.name.copy(alloc)?,
-            levels: copy_names(alloc, self.levels.as_slice())?,
+            levels: copy_all(alloc, self.levels.as_slice())?,
             params: self.params,
             ty: self.ty.copy(alloc)?,
-            ctors: copy_ctors(alloc, self.ctors.as_slice())?,
+            ctors: copy_all(alloc, self.ctors.as_slice())?,
         })
     }
 }

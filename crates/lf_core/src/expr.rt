@@ -19,7 +19,7 @@ ghost use Rattle.lf_core.specs.ExprNode.{term_of};
 use crate::level::Level;
 use crate::summary::Summary;
 use lf_base::NoMemory;
-use lf_name::{Binder, Name};
+use lf_name::{Binder, Copied, Name};
 use sqlite_items::Items;
 use std::alloc::Global;
 use std::marker::Model;
@@ -78,17 +78,6 @@ impl Model for Expr {
     ghost invariant = { λ t. OfTerm (arc_value t.kept).summary (term_of (arc_value t.kept).node) };
 
     ghost size = { node_count };
-}
-
-/// A list equal to `levels`.
-pub fn copy_levels(alloc: Global, levels: &[Level]) -> Result<Items<Level>, NoMemory>
-    ensures { IfOk result (λ all. all ≡ levels.now) }
-{
-    let mut all = Items::new(alloc);
-    for level in levels {
-        all.push(level.copy(alloc)?)?;
-    }
-    Ok(all)
 }
 
 /// Whether the two lists are the same trees, place by place.
@@ -458,5 +447,11 @@ impl Expr {
         Ok(Expr {
             kept: Arc::try_clone(&self.kept)?,
         })
+    }
+}
+
+impl Copied for Expr {
+    fn copied(&self, alloc: Global) -> Result<Expr, NoMemory> {
+        self.copy(alloc)
     }
 }

@@ -9,6 +9,7 @@ ghost use Rattle.lf_core.specs.Substitution.{level_substitute};
 
 use crate::summary::LevelSummary;
 use lf_base::NoMemory;
+use lf_name::Copied;
 use std::alloc::Global;
 use std::marker::Model;
 use std::sync::Arc;
@@ -267,5 +268,11 @@ impl Level {
                 (LevelNode::Meta(j), LevelNode::Meta(k)) => *j == *k,
                 _ => false,
             }
+    }
+}
+
+impl Copied for Level {
+    fn copied(&self, alloc: Global) -> Result<Level, NoMemory> {
+        self.copy(alloc)
     }
 }

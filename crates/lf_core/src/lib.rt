@@ -8,13 +8,11 @@ mod literal;
 mod suffix;
 mod summary;
 
-pub use constant::{
-    Ans, ConstInfo, ConstKind, CtorInfo, Detail, IndDecl, TaskKey, copy_names, copy_terms,
-};
-pub use expr::{Expr, ExprNode, copy_levels, levels_count, levels_longest, same_levels};
+pub use constant::{Ans, ConstInfo, ConstKind, CtorInfo, Detail, IndDecl, TaskKey};
+pub use expr::{Expr, ExprNode, levels_count, levels_longest, same_levels};
 pub use level::{Level, LevelNode};
 pub use lf_base::NoMemory;
-pub use lf_name::{Binder, BinderKind, Name, Word, same_parts};
+pub use lf_name::{Binder, BinderKind, Copied, Name, Word, copy_all, same_parts};
 pub use literal::{LitOut, Operation};
 pub use suffix::Suffix;
 

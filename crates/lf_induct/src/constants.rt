@@ -6,7 +6,7 @@ ghost use Rattle.lf_rules.specs.Recursor as rules;
 ghost use Rattle.lf_steps.specs.Runs.{RunsAs, Calm};
 ghost use Rattle.lf_induct.specs.Parts as parts;
 
-use lf_core::{ConstInfo, ConstKind, CtorInfo, Detail, Expr, IndDecl, Name, NoMemory, copy_names};
+use lf_core::{ConstInfo, ConstKind, CtorInfo, Detail, Expr, IndDecl, Name, NoMemory, copy_all};
 use lf_recursor::{pi_count, recursor_of};
 use lf_steps::{Halt, out};
 use lf_subst::DEEPEST;
@@ -41,7 +41,7 @@ fn type_with(
     Ok(ConstInfo {
         name: decl.name.copy(alloc)?,
         kind: ConstKind::Inductive,
-        levels: copy_names(alloc, decl.levels.as_slice())?,
+        levels: copy_all(alloc, decl.levels.as_slice())?,
         ty: decl.ty.copy(alloc)?,
         value: None,
         height: 0,
@@ -75,7 +75,7 @@ fn constructor_constant(
     Ok(ConstInfo {
         name: ctor.name.copy(alloc)?,
         kind: ConstKind::Constructor,
-        levels: copy_names(alloc, decl.levels.as_slice())?,
+        levels: copy_all(alloc, decl.levels.as_slice())?,
         ty: ctor.ty.copy(alloc)?,
         value: None,
         height: 0,

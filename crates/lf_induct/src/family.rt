@@ -5,7 +5,7 @@ ghost use Rattle.lf_rules.specs.Recursor as spec;
 ghost use Rattle.lf_rules.specs.Telescope as telescope;
 ghost use Rattle.lf_recursor.specs.Values.{family_of};
 
-use lf_core::{Expr, IndDecl, Level, NoMemory, copy_levels, copy_terms};
+use lf_core::{Expr, IndDecl, Level, NoMemory, copy_all};
 use lf_recursor::{Family, Local, opened_family};
 use lf_steps::{apply, arguments};
 use sqlite_items::Items;
@@ -55,7 +55,7 @@ pub fn self_type(alloc: Global, family: &Family) -> Result<Expr, NoMemory>
 {
     let mut params = Vec::new(alloc);
     push_variables(&mut params, 0, family.params.as_slice())?;
-    let levels = copy_levels(alloc, family.levels.as_slice())?;
+    let levels = copy_all(alloc, family.levels.as_slice())?;
     let constant = Expr::constant(alloc, family.name.copy(alloc)?, levels)?;
     apply(alloc, constant, params.as_slice())
 }
@@ -72,5 +72,5 @@ pub fn indices_of(alloc: Global, family: &Family, term: &Expr) -> Result<Items<E
     ensures { IfOk result (λ is. is ≡ spec.indices_of (family_of family.now) term.now) }
 {
     let given = arguments(alloc, term)?;
-    copy_terms(alloc, behind(family.params.len(), given.as_slice()))
+    copy_all(alloc, behind(family.params.len(), given.as_slice()))
 }

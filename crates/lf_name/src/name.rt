@@ -2,6 +2,7 @@
 ghost use Rattle.std.specs.Prelude.{◌≡◌, ◌↔◌, ◌<◌, ◌++◌, ◌∷◌, [], ℕ, List, IsTrue, IfOk, length};
 ghost use Rattle.lf_name.specs.Same.{same_path};
 
+use crate::copied::{Copied, copy_all};
 use crate::word::Word;
 use lf_base::NoMemory;
 use sqlite_items::Items;
@@ -43,17 +44,6 @@ pub fn same_parts(a: &[Word], b: &[Word]) -> bool
     }
 }
 
-/// A list of words equal to `words`.
-fn copy_words(alloc: Global, words: &[Word]) -> Result<Items<Word>, NoMemory>
-    ensures { IfOk result (λ all. all ≡ words.now) }
-{
-    let mut all = Items::new(alloc);
-    for word in words {
-        all.push(word.copy(alloc)?)?;
-    }
-    Ok(all)
-}
-
 impl Name {
     /// The name with these parts.
     pub fn new(alloc: Global, parts: Items<Word>) -> Result<Name, NoMemory>
@@ -78,7 +68,7 @@ impl Name {
     pub fn child(&self, alloc: Global, last: &str) -> Result<Name, NoMemory>
         ensures { IfOk result (λ n. n ≡ self.now ++ last.now ∷ []) }
     {
-        let mut parts = copy_words(alloc, self.parts())?;
+        let mut parts = copy_all(alloc, self.parts())?;
         parts.push(Word::new(alloc, last)?)?;
         Name::new(alloc, parts)
     }
@@ -116,5 +106,11 @@ impl Name {
             [front @ .., _last] => same_parts(front, prefix.parts()),
             [] => false,
         }
+    }
+}
+
+impl Copied for Name {
+    fn copied(&self, alloc: Global) -> Result<Name, NoMemory> {
+        self.copy(alloc)
     }
 }

@@ -2,6 +2,7 @@
 ghost use Rattle.std.specs.Prelude.{◌≡◌, ◌↔◌, IsTrue, IfOk};
 ghost use Rattle.std.specs.Str.{bytes_eq};
 
+use crate::copied::Copied;
 use lf_base::NoMemory;
 use std::alloc::Global;
 use std::marker::Model;
@@ -50,5 +51,11 @@ impl Word {
         ensures same { result ≡ bytes_eq self.now other.now }
     {
         self.text.as_str() == other.text.as_str()
+    }
+}
+
+impl Copied for Word {
+    fn copied(&self, alloc: Global) -> Result<Word, NoMemory> {
+        self.copy(alloc)
     }
 }

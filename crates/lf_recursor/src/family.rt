@@ -4,7 +4,7 @@ ghost use Rattle.lf_rules.specs.Recursor as spec;
 ghost use Rattle.lf_recursor.specs.Values.{family_of};
 
 use crate::telescope::{Local, open_pis};
-use lf_core::{CtorInfo, Expr, IndDecl, Level, Name, NoMemory, copy_levels};
+use lf_core::{CtorInfo, Expr, IndDecl, Level, Name, NoMemory, copy_all};
 use lf_subst::at_levels;
 use sqlite_items::Items;
 use std::alloc::Global;
@@ -70,7 +70,7 @@ pub fn opened_family(alloc: Global, levels: &[Level], decl: &IndDecl) -> Result<
     push_cases(&mut cases, levels, decl.params, decl.ctors.as_slice())?;
     Ok(Family {
         name: decl.name.copy(alloc)?,
-        levels: copy_levels(alloc, levels)?,
+        levels: copy_all(alloc, levels)?,
         params: opened.locals,
         rest: opened.rest,
         cases,

@@ -7,7 +7,7 @@ ghost use Rattle.lf_recursor.specs.Values.{family_of};
 use crate::family::{Case, Family};
 use crate::names::{hypothesis_name, last_part};
 use crate::telescope::{Local, count, open_all, pis_over, push_of_kind, push_variables};
-use lf_core::{Binder, BinderKind, Expr, ExprNode, Level, Name, NoMemory, copy_levels};
+use lf_core::{Binder, BinderKind, Expr, ExprNode, Level, Name, NoMemory, copy_all};
 use lf_steps::{apply, arguments, head};
 use std::alloc::Global;
 
@@ -17,7 +17,7 @@ fn self_type(alloc: Global, family: &Family) -> Result<Expr, NoMemory>
 {
     let mut params = Vec::new(alloc);
     push_variables(&mut params, 0, family.params.as_slice())?;
-    let levels = copy_levels(alloc, family.levels.as_slice())?;
+    let levels = copy_all(alloc, family.levels.as_slice())?;
     let constant = Expr::constant(alloc, family.name.copy(alloc)?, levels)?;
     apply(alloc, constant, params.as_slice())
 }
@@ -194,7 +194,7 @@ fn minor_type(alloc: Global, family: &Family, case: &Case) -> Result<Expr, NoMem
     let mut places = Vec::new(alloc);
     push_variables(&mut places, 0, family.params.as_slice())?;
     push_variables(&mut places, first, opened.locals.as_slice())?;
-    let levels = copy_levels(alloc, family.levels.as_slice())?;
+    let levels = copy_all(alloc, family.levels.as_slice())?;
     let constructor = Expr::constant(alloc, case.constructor.copy(alloc)?, levels)?;
     let member = apply(alloc, constructor, places.as_slice())?;
     let end = motive_at(alloc, family, &opened.rest, member)?;

@@ -11,7 +11,7 @@ use crate::telescope::{
 };
 use lf_core::{
     BinderKind, ConstInfo, ConstKind, Detail, Expr, ExprNode, IndDecl, Level, Name, NoMemory,
-    copy_levels,
+    copy_all,
 };
 use lf_steps::apply;
 use sqlite_items::Items;
@@ -76,7 +76,7 @@ fn recursive_call(
             push_variables(&mut places, 0, scheme.shared.as_slice())?;
             push_indices(&mut places, &scheme.family, ty)?;
             places.push(at_innermost(alloc, x, n)?)?;
-            let levels = copy_levels(alloc, scheme.called.levels.as_slice())?;
+            let levels = copy_all(alloc, scheme.called.levels.as_slice())?;
             let name = scheme.called.name.copy(alloc)?;
             let constant = Expr::constant(alloc, name, levels)?;
             apply(alloc, constant, places.as_slice())

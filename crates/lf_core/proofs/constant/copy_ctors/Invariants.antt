@@ -1,5 +1,0 @@
-use Rattle.std.proofs.Common.{◌≡◌, take}
-use Rattle.lf_core.proofs.constant.copy_ctors.Given as goal
-
-abbrev pub invariant-loop-ctor : goal.invariant-loop-ctor
-invariant-loop-ctor l = l.all ≡ take l.ctor-index l.ctors
