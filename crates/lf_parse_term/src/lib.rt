@@ -4,6 +4,7 @@
 mod build;
 mod element;
 mod halt;
+mod items;
 mod level;
 mod names;
 mod piece;

@@ -1,4 +1,4 @@
-//! Terms, their binders and proof items.
+//! Terms and their binders.
 ghost use Rattle.std.specs.Prelude.{◌≡◌, ◌<◌, ◌≤◌, ◌+◌, ◌∷◌, [], length, map, option_map, Some, None};
 ghost use Rattle.lf_name.specs.declared.binder.BinderKind.TheVariants.{Implicit as ImplicitKind};
 ghost use Rattle.lf_syntax.specs.Levels.{operand_level};
@@ -6,14 +6,13 @@ ghost use Rattle.lf_syntax.specs.Levels as levels;
 ghost use Rattle.lf_syntax.specs.Rows.{operand_rows, lambda_binder_rows, group_end_rows, term_rows, implicit_binder, tree_of};
 ghost use Rattle.lf_syntax.specs.Build.{with_arguments};
 ghost use Rattle.lf_syntax.specs.Symbol as symbol;
-ghost use Rattle.lf_syntax.specs.TermNode.{lbinder_trees, lbinder_tree, rule_tree, binders_tree};
+ghost use Rattle.lf_syntax.specs.TermNode.{lbinder_trees, lbinder_tree, binders_tree};
 ghost use Rattle.lf_syntax.specs.Tree as tree;
 ghost use Rattle.lf_text.specs.declared.word.Word.TheVariants as words;
 ghost use Rattle.lf_parse_term.specs.Descent.{Told, ToldAs, behind, Shorter, ShorterIfSome, NoLonger, read, reading, seq, maybe};
 ghost use Rattle.lf_parse_term.specs.Spine.{
   ToldThen,
   IsAtom,
-  IsItem,
   after,
   after_maybe,
   extended,
@@ -31,20 +30,21 @@ ghost use Rattle.lf_parse_term.specs.View.{views};
 
 use crate::build::{
     application, explicit_binders, ident, implicit, levels_behind, name_term, name_terms,
-    operation, place, unnamed,
+    operation, unnamed,
 };
 use crate::element::Element;
 use crate::halt::Halt;
+use crate::items::block;
 use crate::level::written_levels;
 use crate::names::{
     any_name, binder_name, binder_names, named, one, one_part, some_binder_name, some_part,
     underscore,
 };
-use crate::piece::{Front, Piece, Spot, next, stuck};
+use crate::piece::{Front, Piece, next, stuck};
 use crate::sort::put;
 use crate::token::{arrow, some_arrow, some_word, word};
 use lf_name::BinderKind;
-use lf_syntax::{Binders, Ident, Item, ItemNode, LBinder, Num, Rule, Shared, Term, TermNode};
+use lf_syntax::{Binders, Ident, LBinder, Num, Shared, Term, TermNode};
 use lf_text::{Op, Spelling, Word};
 use std::alloc::Global;
 
@@ -60,12 +60,6 @@ fn atom(alloc: Global, node: TermNode, toks: &[Piece]) -> Result<(Option<Element
     ensures { IsAtom result node toks.now }
 {
     Ok((Some(Element::Atom(Term::of(alloc, node)?)), toks))
-}
-
-fn made(alloc: Global, node: ItemNode, toks: &[Piece]) -> Result<(Item, &[Piece]), Halt>
-    ensures { IsItem result node toks.now }
-{
-    Ok((Item::of(alloc, node)?, toks))
 }
 
 /// A term of at least this level.
@@ -712,181 +706,5 @@ fn lambda_binders(
             Some(binder) => all.push(binder)?,
         }
         rest = more;
-    }
-}
-
-/// A block of items.
-#[cycle(term)]
-#[tactic(auto, using(crate::proofs::Laws::read_block, crate::proofs::Lists::behind_tail, crate::proofs::Lists::behind_whole, crate::proofs::Lists::behind_fails))]
-fn block(alloc: Global, toks: &[Piece]) -> Result<(Vec<Item>, &[Piece]), Halt>
-    ensures told { ToldAs result (λ v. v.items) (read symbol.block (views toks.now)) }
-    ensures shorter { Shorter result toks.now }
-{
-    match next(toks) {
-        Front::Word(Word::LayoutOpen, _, rest) => {
-            let (first, rest) = item(alloc, rest)?;
-            more_items(alloc, one(alloc, first)?, rest)
-        }
-        _ => Err(stuck(toks)),
-    }
-}
-
-/// The items, and behind them those up to the end of the block.
-#[cycle(term)]
-#[tactic(auto, using(crate::proofs::Laws::read_more_items, crate::proofs::Lists::behind_one, crate::proofs::Lists::behind_err, crate::proofs::Lists::behind_end))]
-fn more_items(
-    alloc: Global,
-    first: Vec<Item>,
-    toks: &[Piece],
-) -> Result<(Vec<Item>, &[Piece]), Halt>
-    ensures told { ToldAs result (λ v. v.items) (behind first.items (read symbol.more_items (views toks.now))) }
-    ensures shorter { Shorter result toks.now }
-{
-    let mut all = first;
-    let mut rest = toks;
-    'list: loop {
-        match next(rest) {
-            Front::Word(Word::LayoutSep, _, more) | Front::Word(Word::Semicolon, _, more) => {
-                let (item, more) = item(alloc, more)?;
-                all.push(item)?;
-                rest = more;
-            }
-            Front::Word(Word::LayoutClose, _, more) => return Ok((all, more)),
-            _ => return Err(stuck(rest)),
-        }
-    }
-}
-
-/// A proof item.
-#[cycle(term)]
-#[tactic(auto, using(crate::proofs::Laws::read_item, crate::proofs::Forms::rules_are, crate::proofs::Lists::behind_tail, crate::proofs::Lists::behind_whole, crate::proofs::Lists::behind_fails))]
-fn item(alloc: Global, toks: &[Piece]) -> Result<(Item, &[Piece]), Halt>
-    ensures told { Told result (read symbol.item (views toks.now)) }
-    ensures shorter { Shorter result toks.now }
-{
-    match next(toks) {
-        Front::Word(Word::Dot, spot, rest) => {
-            let (items, rest) = block(alloc, rest)?;
-            made(alloc, ItemNode::Block { at: spot.at, items }, rest)
-        }
-        Front::Word(Word::Sorry, spot, rest) => made(alloc, ItemNode::Sorry { at: spot.at }, rest),
-        Front::Name(spelling, _, spot, rest) => match spelling {
-            Spelling::Exact => {
-                let (term, rest) = term(alloc, rest, 0)?;
-                made(alloc, ItemNode::Exact { at: spot.at, term }, rest)
-            }
-            Spelling::Intro => {
-                let (first, rest) = binder_name(alloc, rest)?;
-                let (names, rest) = binder_names(alloc, one(alloc, first)?, rest)?;
-                let names = Shared::of(alloc, names)?;
-                made(alloc, ItemNode::Intro { at: spot.at, names }, rest)
-            }
-            Spelling::Apply => {
-                let (term, rest) = term(alloc, rest, 0)?;
-                made(alloc, ItemNode::Apply { at: spot.at, term }, rest)
-            }
-            Spelling::Rfl => made(alloc, ItemNode::Rfl { at: spot.at }, rest),
-            Spelling::Assumption => made(alloc, ItemNode::Assumption { at: spot.at }, rest),
-            Spelling::Rw => {
-                let (_, rest) = word(rest, Word::LeftBracket)?;
-                let (first, rest) = rule(alloc, rest)?;
-                let (rules, rest) = more_rules(alloc, one(alloc, first)?, rest)?;
-                made(alloc, ItemNode::Rw { at: spot.at, rules }, rest)
-            }
-            Spelling::Unfold => {
-                let (name, rest) = any_name(alloc, rest)?;
-                made(alloc, ItemNode::Unfold { at: spot.at, name }, rest)
-            }
-            Spelling::Have => {
-                let (name, rest) = one_part(alloc, rest)?;
-                let (_, rest) = word(rest, Word::Colon)?;
-                let (ty, rest) = term(alloc, rest, 0)?;
-                let (_, rest) = word(rest, Word::Assign)?;
-                let (value, rest) = term(alloc, rest, 0)?;
-                let at = spot.at;
-                made(
-                    alloc,
-                    ItemNode::Have {
-                        at,
-                        name,
-                        ty,
-                        value,
-                    },
-                    rest,
-                )
-            }
-            Spelling::Induction => {
-                let (name, rest) = one_part(alloc, rest)?;
-                made(alloc, ItemNode::Induction { at: spot.at, name }, rest)
-            }
-            Spelling::Cases => {
-                let (name, rest) = one_part(alloc, rest)?;
-                made(alloc, ItemNode::Cases { at: spot.at, name }, rest)
-            }
-            Spelling::Injection => {
-                let (name, rest) = one_part(alloc, rest)?;
-                made(alloc, ItemNode::Injection { at: spot.at, name }, rest)
-            }
-            _ => Err(stuck(toks)),
-        },
-        _ => Err(stuck(toks)),
-    }
-}
-
-/// A rule of `rw`.
-#[cycle(term)]
-#[tactic(auto, using(crate::proofs::Forms::read_rule))]
-fn rule(alloc: Global, toks: &[Piece]) -> Result<(Rule, &[Piece]), Halt>
-    ensures told { ToldAs result rule_tree (read symbol.rw_rule (views toks.now)) }
-    ensures shorter { Shorter result toks.now }
-{
-    let (arrow, rest) = some_word(toks, Word::BackArrow)?;
-    let (term, rest) = term(alloc, rest, 0)?;
-    match arrow {
-        Some(at) => Ok((
-            Rule {
-                at,
-                back: true,
-                term,
-            },
-            rest,
-        )),
-        None => {
-            let at = place(&term);
-            Ok((
-                Rule {
-                    at,
-                    back: false,
-                    term,
-                },
-                rest,
-            ))
-        }
-    }
-}
-
-/// The rules, and behind them those up to the bracket.
-#[cycle(term)]
-#[tactic(auto, using(crate::proofs::Laws::read_more_rules, crate::proofs::Forms::map_one, crate::proofs::Lists::behind_one, crate::proofs::Lists::behind_err, crate::proofs::Lists::behind_end))]
-fn more_rules(
-    alloc: Global,
-    first: Vec<Rule>,
-    toks: &[Piece],
-) -> Result<(Vec<Rule>, &[Piece]), Halt>
-    ensures told { ToldAs result (λ v. map rule_tree v.items) (behind (map rule_tree first.items) (read symbol.more_rules (views toks.now))) }
-    ensures shorter { Shorter result toks.now }
-{
-    let mut all = first;
-    let mut rest = toks;
-    'list: loop {
-        match next(rest) {
-            Front::Word(Word::Comma, _, more) => {
-                let (rule, more) = rule(alloc, more)?;
-                all.push(rule)?;
-                rest = more;
-            }
-            Front::Word(Word::RightBracket, _, more) => return Ok((all, more)),
-            _ => return Err(stuck(rest)),
-        }
     }
 }

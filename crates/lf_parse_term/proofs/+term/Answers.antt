@@ -14,10 +14,10 @@ use Rattle.lf_parse_term.specs.View.{piece, views}
 use Rattle.lf_parse_term.specs.declared.element.Element.TheVariants.{Atom, Lead}
 use Rattle.lf_parse_term.proofs.Arguments.{group_some}
 use Rattle.lf_parse_term.proofs.Steps.{binding_told, brace_told, implicit_told, close_told, op_step}
-use Rattle.lf_parse_term.proofs.terms.+term.Goals as goal
+use Rattle.lf_parse_term.proofs.+term.Goals as goal
 
-pub chain-list-preserved : goal.chain-list-preserved
-chain-list-preserved t c =
+pub terms::chain-list-preserved : goal.terms::chain-list-preserved
+terms::chain-list-preserved t c =
     let o = c.in-Operator in
     let r = c.in_ok-right in
     let taken : takes c.args.least c.list.level o.op ≡ true = sym c.takes.ensures ∙ c.if-not-takes.false in
@@ -30,17 +30,17 @@ chain-list-preserved t c =
       shorter = omega (arith, r.ensures.shorter, o.ensures.behind, c.list.invariant.shorter);
     }
 
-pub element-returns-in_ok-inside-in-LeftParen-clause-told : goal.element-returns-in_ok-inside-in-LeftParen-clause-told
-element-returns-in_ok-inside-in-LeftParen-clause-told t c =
+pub terms::element-returns-in_ok-inside-in-LeftParen-clause-told : goal.terms::element-returns-in_ok-inside-in-LeftParen-clause-told
+terms::element-returns-in_ok-inside-in-LeftParen-clause-told t c =
     let w = c.in-Word in
     let g = c.in_ok-inside-in-LeftParen in
     subst (λ us. maybe operand_rows us ≡ after_maybe (Some g.inside) (views g.rest.now))
     (ap (λ v. piece (word v) w.spot ∷ views w.rest.now) (sym c.in-LeftParen.is) ∙ w.ensures.front)
     (group_some (read (symbol.group w.spot.at) (views w.rest.now)) g.inside (views g.rest.now) g.ensures.told)
 
-pub forall_term-returns-clause-told : goal.forall_term-returns-clause-told
+pub terms::forall_term-returns-clause-told : goal.terms::forall_term-returns-clause-told
 unfolding after_maybe
-forall_term-returns-clause-told t c =
+terms::forall_term-returns-clause-told t c =
     let a = c.in_ok-first in
     let b = c.in_ok-binders in
     let first : behind (lbinder_tree a.first ∷ []) (read symbol.lambda_binders (views a.rest.now)) ≡ Ok (map lbinder_tree b.binders.items, views b.rest.now) =
@@ -50,9 +50,9 @@ forall_term-returns-clause-told t c =
     a.ensures.told first c.in_ok-rest.ensures.told c.in_ok-body.ensures.told ∙
     ap (λ (u : TermTree). Ok (some_lead u, views c.in_ok-body.rest.now)) (sym c.in_ok-term.ensures)
 
-pub fun_term-returns-clause-told : goal.fun_term-returns-clause-told
+pub terms::fun_term-returns-clause-told : goal.terms::fun_term-returns-clause-told
 unfolding after_maybe
-fun_term-returns-clause-told t c =
+terms::fun_term-returns-clause-told t c =
     let a = c.in_ok-first in
     let b = c.in_ok-binders in
     let first : behind (lbinder_tree a.first ∷ []) (read symbol.lambda_binders (views a.rest.now)) ≡ Ok (map lbinder_tree b.binders.items, views b.rest.now) =
@@ -62,8 +62,8 @@ fun_term-returns-clause-told t c =
     a.ensures.told first c.in_ok-rest.ensures.told c.in_ok-body.ensures.told ∙
     ap (λ (u : TermTree). Ok (some_lead u, views c.in_ok-body.rest.now)) (sym c.in_ok-term.ensures)
 
-pub named_close-returns-in_ok-term-in-None-clause-told : goal.named_close-returns-in_ok-term-in-None-clause-told
-named_close-returns-in_ok-term-in-None-clause-told t c =
+pub terms::named_close-returns-in_ok-term-in-None-clause-told : goal.terms::named_close-returns-in_ok-term-in-None-clause-told
+terms::named_close-returns-in_ok-term-in-None-clause-told t c =
     let p = c.in_ok-rest in
     let q = c.in_ok-arrow in
     let inside : applied_all (name_terms c.args.before.items c.args.last []) ≡ c.in_ok-inside-in-None.inside =
@@ -74,9 +74,9 @@ named_close-returns-in_ok-term-in-None-clause-told t c =
     ap (λ (u : TermTree). after (Atom u) (views q.rest.now))
     (ap (λ (u : TermTree). paren c.args.at u (some_term c.args.ty)) inside ∙ sym c.in_ok-term-in-None.ensures)
 
-pub some_lambda_binder-returns-in_ok-implicit-in-Word-LeftBrace-default-default-clause-told :
-    goal.some_lambda_binder-returns-in_ok-implicit-in-Word-LeftBrace-default-default-clause-told
-some_lambda_binder-returns-in_ok-implicit-in-Word-LeftBrace-default-default-clause-told t c =
+pub terms::some_lambda_binder-returns-in_ok-implicit-in-Word-LeftBrace-default-default-clause-told :
+    goal.terms::some_lambda_binder-returns-in_ok-implicit-in-Word-LeftBrace-default-default-clause-told
+terms::some_lambda_binder-returns-in_ok-implicit-in-Word-LeftBrace-default-default-clause-told t c =
     let w = c.in-Word-LeftBrace-default-default in
     let a = c.in_ok-first-in-Word-LeftBrace-default-default in
     let b = c.in_ok-names-in-Word-LeftBrace-default-default in
@@ -87,8 +87,8 @@ some_lambda_binder-returns-in_ok-implicit-in-Word-LeftBrace-default-default-clau
     (ap (λ v. piece (word v) w.spot ∷ views w.rest.now) (sym w.field-0-is) ∙ w.ensures.front) a.ensures.told names d.ensures.told ∙
     ap (λ (u : LBinderTree). Ok (Some u, views d.rest.now)) (sym c.in_ok-implicit-in-Word-LeftBrace-default-default.ensures)
 
-pub brace_arrow-returns-clause-told : goal.brace_arrow-returns-clause-told
-brace_arrow-returns-clause-told t c =
+pub terms::brace_arrow-returns-clause-told : goal.terms::brace_arrow-returns-clause-told
+terms::brace_arrow-returns-clause-told t c =
     let a = c.in_ok-first in
     let b = c.in_ok-names in
     let names : behind (a.first ∷ []) (read symbol.binder_names (views a.rest.now)) ≡ Ok (b.names.items, views b.rest.now) =
