@@ -215,6 +215,10 @@ level_13 : Right texts.level_13
 unfolding lexemes_of tokens_of chars starts_part continues_part unicode_ident encode_utf8
 level_13 = right texts.level_13 refl
 
+level_14 : Right texts.level_14
+unfolding lexemes_of tokens_of chars starts_part continues_part unicode_ident encode_utf8
+level_14 = right texts.level_14 refl
+
 operator_1 : Right texts.operator_1
 unfolding lexemes_of tokens_of chars starts_part continues_part unicode_ident encode_utf8
 operator_1 = right texts.operator_1 refl
@@ -788,4 +792,4 @@ unfolding lexemes_of tokens_of chars starts_part continues_part unicode_ident en
 bad_64 = right texts.bad_64 refl
 
 pub each_row : EachRow
-each_row = (argument_1, (argument_2, (argument_3, (argument_4, (argument_5, (argument_6, (argument_7, (argument_8, (head_1, (head_2, (head_3, (head_4, (head_5, (head_6, (head_7, (head_8, (head_9, (binder_1, (binder_2, (binder_3, (binder_4, (binder_5, (binder_6, (binder_7, (binder_8, (binder_9, (binder_10, (binder_11, (binder_12, (binder_13, (binder_14, (binder_15, (binder_16, (binder_17, (binder_18, (binder_19, (binder_20, (level_1, (level_2, (level_3, (level_4, (level_5, (level_6, (level_7, (level_8, (level_9, (level_10, (level_11, (level_12, (level_13, (operator_1, (operator_2, (operator_3, (operator_4, (operator_5, (operator_6, (operator_7, (operator_8, (operator_9, (operator_10, (operator_11, (operator_12, (operator_13, (operator_14, (operator_15, (operator_16, (operator_17, (operator_18, (operator_19, (item_1, (item_2, (item_3, (item_4, (command_1, (command_2, (command_3, (command_4, (command_5, (command_6, (command_7, (command_8, (command_9, (command_10, (command_11, (command_12, (command_13, (command_14, (command_15, (command_16, (command_17, (command_18, (command_19, (command_20, (command_21, (command_22, (command_23, (command_24, (command_25, (command_26, (command_27, (command_28, (command_29, (command_30, (command_31, (command_32, (command_33, (command_34, (reach_1, (reach_2, (reach_3, (reach_4, (reach_5, (reach_6, (reach_7, (reach_8, (reach_9, (reach_10, (reach_11, (reach_12, (reach_13, (reach_14, (reach_15, (reach_16, (reach_17, (reach_18, (reach_19, (reach_20, (reach_21, (reach_22, (bad_1, (bad_2, (bad_3, (bad_4, (bad_5, (bad_6, (bad_7, (bad_8, (bad_9, (bad_10, (bad_11, (bad_12, (bad_13, (bad_14, (bad_15, (bad_16, (bad_17, (bad_18, (bad_19, (bad_20, (bad_21, (bad_22, (bad_23, (bad_24, (bad_25, (bad_26, (bad_27, (bad_28, (bad_29, (bad_30, (bad_31, (bad_32, (bad_33, (bad_34, (bad_35, (bad_36, (bad_37, (bad_38, (bad_39, (bad_40, (bad_41, (bad_42, (bad_43, (bad_44, (bad_45, (bad_46, (bad_47, (bad_48, (bad_49, (bad_50, (bad_51, (bad_52, (bad_53, (bad_54, (bad_55, (bad_56, (bad_57, (bad_58, (bad_59, (bad_60, (bad_61, (bad_62, (bad_63, (bad_64, tt)))))))))))))))))))))))))))))))))))))))))))))))))))))))))))))))))))))))))))))))))))))))))))))))))))))))))))))))))))))))))))))))))))))))))))))))))))))))))))))))))))))))))))))))))))))))))))))))))
+each_row = (argument_1, (argument_2, (argument_3, (argument_4, (argument_5, (argument_6, (argument_7, (argument_8, (head_1, (head_2, (head_3, (head_4, (head_5, (head_6, (head_7, (head_8, (head_9, (binder_1, (binder_2, (binder_3, (binder_4, (binder_5, (binder_6, (binder_7, (binder_8, (binder_9, (binder_10, (binder_11, (binder_12, (binder_13, (binder_14, (binder_15, (binder_16, (binder_17, (binder_18, (binder_19, (binder_20, (level_1, (level_2, (level_3, (level_4, (level_5, (level_6, (level_7, (level_8, (level_9, (level_10, (level_11, (level_12, (level_13, (level_14, (operator_1, (operator_2, (operator_3, (operator_4, (operator_5, (operator_6, (operator_7, (operator_8, (operator_9, (operator_10, (operator_11, (operator_12, (operator_13, (operator_14, (operator_15, (operator_16, (operator_17, (operator_18, (operator_19, (item_1, (item_2, (item_3, (item_4, (command_1, (command_2, (command_3, (command_4, (command_5, (command_6, (command_7, (command_8, (command_9, (command_10, (command_11, (command_12, (command_13, (command_14, (command_15, (command_16, (command_17, (command_18, (command_19, (command_20, (command_21, (command_22, (command_23, (command_24, (command_25, (command_26, (command_27, (command_28, (command_29, (command_30, (command_31, (command_32, (command_33, (command_34, (reach_1, (reach_2, (reach_3, (reach_4, (reach_5, (reach_6, (reach_7, (reach_8, (reach_9, (reach_10, (reach_11, (reach_12, (reach_13, (reach_14, (reach_15, (reach_16, (reach_17, (reach_18, (reach_19, (reach_20, (reach_21, (reach_22, (bad_1, (bad_2, (bad_3, (bad_4, (bad_5, (bad_6, (bad_7, (bad_8, (bad_9, (bad_10, (bad_11, (bad_12, (bad_13, (bad_14, (bad_15, (bad_16, (bad_17, (bad_18, (bad_19, (bad_20, (bad_21, (bad_22, (bad_23, (bad_24, (bad_25, (bad_26, (bad_27, (bad_28, (bad_29, (bad_30, (bad_31, (bad_32, (bad_33, (bad_34, (bad_35, (bad_36, (bad_37, (bad_38, (bad_39, (bad_40, (bad_41, (bad_42, (bad_43, (bad_44, (bad_45, (bad_46, (bad_47, (bad_48, (bad_49, (bad_50, (bad_51, (bad_52, (bad_53, (bad_54, (bad_55, (bad_56, (bad_57, (bad_58, (bad_59, (bad_60, (bad_61, (bad_62, (bad_63, (bad_64, tt))))))))))))))))))))))))))))))))))))))))))))))))))))))))))))))))))))))))))))))))))))))))))))))))))))))))))))))))))))))))))))))))))))))))))))))))))))))))))))))))))))))))))))))))))))))))))))))))))

@@ -507,6 +507,12 @@ level_13 =
     text "axiom A.{u, v} : B"
     (λ tokens. is_command (Axiom (decl 0 (id 6 (codes "A")) ((id 9 (codes "u")) ∷ (id 12 (codes "v")) ∷ []) [] (Some (v 17 (codes "B"))))))
 
+abbrev pub level_14 : Text
+level_14 =
+    text "#check Type max u v"
+    (λ tokens. is_command (Check 0 (app 7 (type_u 7 (Some (level_name (id 12 (codes "max"))))) (terms ((v 16 (codes "u")) ∷
+    (v 18 (codes "v")) ∷ [])))))
+
 -- Operators and their other spellings.
 
 abbrev pub operator_1 : Text
@@ -1324,9 +1330,9 @@ EachRow = AllRight (argument_1 ∷ argument_2 ∷ argument_3 ∷ argument_4 ∷ 
     binder_1 ∷ binder_2 ∷ binder_3 ∷ binder_4 ∷ binder_5 ∷ binder_6 ∷ binder_7 ∷ binder_8 ∷ binder_9 ∷ binder_10 ∷ binder_11 ∷ binder_12 ∷
     binder_13 ∷ binder_14 ∷ binder_15 ∷ binder_16 ∷ binder_17 ∷ binder_18 ∷ binder_19 ∷ binder_20 ∷
     level_1 ∷ level_2 ∷ level_3 ∷ level_4 ∷ level_5 ∷ level_6 ∷ level_7 ∷ level_8 ∷ level_9 ∷ level_10 ∷ level_11 ∷ level_12 ∷
-    level_13 ∷
-    operator_1 ∷ operator_2 ∷ operator_3 ∷ operator_4 ∷ operator_5 ∷ operator_6 ∷ operator_7 ∷ operator_8 ∷ operator_9 ∷ operator_10 ∷ operator_11 ∷ operator_12 ∷
-    operator_13 ∷ operator_14 ∷ operator_15 ∷ operator_16 ∷ operator_17 ∷ operator_18 ∷ operator_19 ∷
+    level_13 ∷ level_14 ∷
+    operator_1 ∷ operator_2 ∷ operator_3 ∷ operator_4 ∷ operator_5 ∷ operator_6 ∷ operator_7 ∷ operator_8 ∷ operator_9 ∷ operator_10 ∷ operator_11 ∷
+    operator_12 ∷ operator_13 ∷ operator_14 ∷ operator_15 ∷ operator_16 ∷ operator_17 ∷ operator_18 ∷ operator_19 ∷
     item_1 ∷ item_2 ∷ item_3 ∷ item_4 ∷
     command_1 ∷ command_2 ∷ command_3 ∷ command_4 ∷ command_5 ∷ command_6 ∷ command_7 ∷ command_8 ∷ command_9 ∷ command_10 ∷ command_11 ∷ command_12 ∷
     command_13 ∷ command_14 ∷ command_15 ∷ command_16 ∷ command_17 ∷ command_18 ∷ command_19 ∷ command_20 ∷ command_21 ∷ command_22 ∷ command_23 ∷ command_24 ∷
