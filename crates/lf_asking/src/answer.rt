@@ -1,4 +1,8 @@
 //! Answers of the kernel's calls, against what is wanted.
+ghost use Rattle.std.specs.Prelude.{◌≡◌, ◌↔◌, IsTrue};
+ghost use Rattle.std.specs.Option.{option_copied};
+ghost use Rattle.lf_asking.specs.Values as values;
+
 use lf_checker::TypeFault;
 use lf_core::{Ans, Expr, Name, TaskKey};
 use lf_notation::{Unread, name, names, term, terms};
@@ -29,7 +33,9 @@ pub struct Left<'a> {
 }
 
 /// The text of the value that is wanted with so many units left, if one is.
-pub fn wanted_value<'a>(wanted: &Wanted<'a>, units: u64) -> Option<&'a str> {
+pub fn wanted_value<'a>(wanted: &Wanted<'a>, units: u64) -> Option<&'a str>
+    ensures { option_copied result ≡ values.wanted_value wanted.now units }
+{
     match wanted {
         Wanted::Gives(text) => Some(text),
         Wanted::Done(text, left) if *left == units => Some(text),
@@ -37,17 +43,27 @@ pub fn wanted_value<'a>(wanted: &Wanted<'a>, units: u64) -> Option<&'a str> {
     }
 }
 
+// Whether these are the wanted names, in their order.
+fn same_names(found: &[Name], wanted: &[Name]) -> bool
+    ensures { IsTrue result ↔ (found.now ≡ wanted.now) }
+{
+    match found {
+        [] => match wanted {
+            [] => true,
+            [_y, _ys @ ..] => false,
+        },
+        [x, xs @ ..] => match wanted {
+            [] => false,
+            [y, ys @ ..] => x.is(y) && same_names(xs, ys),
+        },
+    }
+}
+
 fn are_names(alloc: Global, found: &[Name], text: &str) -> Result<bool, Unread> {
     let wanted = names(alloc, text)?;
-    if found.len() != wanted.len() {
-        return Ok(false);
-    }
-    for (a, b) in found.iter().zip(wanted.as_slice()) {
-        if !a.is(b) {
-            return Ok(false);
-        }
-    }
-    Ok(true)
+    let same = same_names(found, wanted.as_slice());
+    drop(wanted);
+    Ok(same)
 }
 
 fn is_name(alloc: Global, found: &Name, text: &str) -> Result<bool, Unread> {

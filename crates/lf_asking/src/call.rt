@@ -115,11 +115,6 @@ pub fn answers_with_stop<P: Stop>(
     }
 }
 
-/// Whether the call answers as wanted, over this view and with no stop.
-pub fn answers_as_wanted(alloc: Global, view: &View, row: &Row<'_>) -> Result<bool, Unread> {
-    answers_with_stop(alloc, view, &mut NeverStop, row)
-}
-
 /// A row with 512 nested calls allowed: the call, the types of the free variables, what it is of, the units, the answer.
 pub type Asked = (Call, &'static str, &'static str, u64, Wanted<'static>);
 
@@ -133,5 +128,5 @@ pub fn holds(alloc: Global, view: &View, asked: &Asked) -> Result<bool, Unread> 
         budget: Budget { units, depth: 512 },
         wanted,
     };
-    answers_as_wanted(alloc, view, &row)
+    answers_with_stop(alloc, view, &mut NeverStop, &row)
 }

@@ -1,11 +1,13 @@
 //! Calls of the kernel, as rows of a table.
+ghost use Rattle.std.specs.Prelude.{◌≡◌, ◌↔◌, map, IsTrue};
+
 use crate::answer::{Wanted, ends_as_wanted, wanted_value};
 use crate::call::left;
 use crate::views::constant;
 use lf_base::{Budget, NeverStop, Stop};
 use lf_check::CheckCx;
 use lf_checker::TypeFault;
-use lf_core::{Ans, ConstInfo, ConstKind, Expr, Level};
+use lf_core::{Ans, ConstInfo, ConstKind, Expr, Level, Name};
 use lf_env::View;
 use lf_kernel::{add_decl, add_header, add_inductive};
 use lf_notation::{Declaration, Unread, declared, name, names, term};
@@ -32,17 +34,27 @@ fn is_sort_of(alloc: Global, level: &Level, text: &str) -> Result<bool, Unread> 
     Ok(same)
 }
 
+// Whether these are the constants of the wanted names, in their order.
+fn are_named(infos: &[ConstInfo], wanted: &[Name]) -> bool
+    ensures { IsTrue result ↔ (map (λ c. c.name) infos.now ≡ wanted.now) }
+{
+    match infos {
+        [] => match wanted {
+            [] => true,
+            [_y, _ys @ ..] => false,
+        },
+        [x, xs @ ..] => match wanted {
+            [] => false,
+            [y, ys @ ..] => x.name.is(y) && are_named(xs, ys),
+        },
+    }
+}
+
 fn have_names(alloc: Global, infos: &[ConstInfo], text: &str) -> Result<bool, Unread> {
     let wanted = names(alloc, text)?;
-    if infos.len() != wanted.len() {
-        return Ok(false);
-    }
-    for (info, name) in infos.iter().zip(wanted.as_slice()) {
-        if !info.name.is(name) {
-            return Ok(false);
-        }
-    }
-    Ok(true)
+    let same = are_named(infos, wanted.as_slice());
+    drop(wanted);
+    Ok(same)
 }
 
 fn header_as_wanted<P: Stop>(
@@ -117,20 +129,18 @@ pub fn adds_with_stop<P: Stop>(
     }
 }
 
-/// Whether the call answers as wanted, over this view and with no stop.
-pub fn adds_as_wanted(
-    alloc: Global,
-    view: &View,
-    budget: Budget,
-    addition: &Addition<'_>,
-    wanted: &Wanted<'_>,
-) -> Result<bool, Unread> {
+/// What is added, the units and the nesting that are allowed, and the answer.
+pub type Added = (Addition<'static>, u64, u32, Wanted<'static>);
+
+/// Whether the row is answered as wanted, over this view.
+pub fn adds(alloc: Global, view: &View, added: &Added) -> Result<bool, Unread> {
+    let (addition, units, depth, wanted) = *added;
     let mut cx = CheckCx {
         view,
         locals: Vec::new(alloc),
         opened: Vec::new(alloc),
-        budget,
+        budget: Budget { units, depth },
         stop: &mut NeverStop,
     };
-    adds_with_stop(alloc, &mut cx, addition, wanted)
+    adds_with_stop(alloc, &mut cx, &addition, &wanted)
 }

@@ -7,6 +7,6 @@ mod kernel;
 mod views;
 
 pub use answer::Wanted;
-pub use call::{Asked, Call, Row, answers_as_wanted, answers_with_stop, holds};
-pub use kernel::{Addition, adds_as_wanted, adds_with_stop};
+pub use call::{Asked, Call, Row, answers_with_stop, holds};
+pub use kernel::{Added, Addition, adds, adds_with_stop};
 pub use views::{Known, add_known, constant, view_of};

@@ -4,3 +4,5 @@
 mod known;
 #[cfg(test)]
 mod tests;
+#[cfg(test)]
+mod wrong;

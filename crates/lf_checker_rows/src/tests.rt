@@ -283,6 +283,70 @@ fn needs(rt: HostRuntime) -> Result<(), Fail> {
     Ok(())
 }
 
+// A name that may still be made: of a definition's equation, of a constructor; not behind an open branch.
+#[test]
+fn realized_names(rt: HostRuntime) -> Result<(), Fail> {
+    let rows: [Asked; 10] = [
+        (Call::Whnf, "", "c.eq_1", 100, Wanted::Need("Real c.eq_1")),
+        (
+            Call::Equal,
+            "",
+            "c c.eq_1",
+            100,
+            Wanted::Need("Real c.eq_1"),
+        ),
+        (
+            Call::Unchecked,
+            "",
+            "c.eq_def",
+            100,
+            Wanted::Need("Real c.eq_def"),
+        ),
+        (
+            Call::Nf,
+            "",
+            "fun:x c.eq_2 #0",
+            100,
+            Wanted::Need("Real c.eq_2"),
+        ),
+        (
+            Call::Infer,
+            "",
+            "c.eq_65",
+            100,
+            Wanted::Need("Real c.eq_65"),
+        ),
+        (
+            Call::Infer,
+            "",
+            "c.eq_66",
+            100,
+            Wanted::Refused("Unknown c.eq_66", ""),
+        ),
+        (
+            Call::Infer,
+            "",
+            "Nat.succ.inj",
+            100,
+            Wanted::Need("Real Nat.succ.inj"),
+        ),
+        (
+            Call::Infer,
+            "",
+            "c.inj",
+            100,
+            Wanted::Refused("Unknown c.inj", ""),
+        ),
+        (Call::Infer, "", "f.eq_1", 100, Wanted::Need("Body 3")),
+        (Call::Infer, "", "f.aux.eq_1", 100, Wanted::Need("Body 3")),
+    ];
+    let view = unfinished(rt.alloc())?;
+    for row in &rows {
+        assert!(rt; holds(rt.alloc(), &view, row)?, "{row:?}");
+    }
+    Ok(())
+}
+
 // From 7 along a proof of an equation of numbers; and by cases of a proposition with two constructors.
 #[test]
 fn proofs_as_constructors(rt: HostRuntime) -> Result<(), Fail> {

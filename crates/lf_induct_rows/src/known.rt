@@ -52,7 +52,10 @@ pub const ACC: Declaration<'static> = Declaration {
     ty: "pi:{α} (Sort 'u0) (pi:r (pi:a #0 (pi:a #1 Prop)) (pi:a #1 Prop))",
     ctors: &[(
         "Acc.intro",
-        "pi:{α} (Sort 'u0) (pi:{r} (pi:a #0 (pi:a #1 Prop)) (pi:x #1 (pi:h (pi:y #2 (pi:a (@2 #2 #0 #1) (@3 (Acc/1 'u0) #4 #3 #1))) (@3 (Acc/1 'u0) #3 #2 #1))))",
+        concat!(
+            "pi:{α} (Sort 'u0) (pi:{r} (pi:a #0 (pi:a #1 Prop)) (pi:x #1 ",
+            "(pi:h (pi:y #2 (pi:a (@2 #2 #0 #1) (@3 (Acc/1 'u0) #4 #3 #1))) (@3 (Acc/1 'u0) #3 #2 #1))))",
+        ),
     )],
 };
 
@@ -130,4 +133,9 @@ pub fn nothing(alloc: Global) -> Result<View, Unread> {
 
 pub fn lists(alloc: Global) -> Result<View, Unread> {
     view_of(alloc, &[Known::Inductive(NAT), Known::Inductive(LIST)])
+}
+
+/// Types with a constructor whose field is a function into the type.
+pub fn families(alloc: Global) -> Result<View, Unread> {
+    view_of(alloc, &[Known::Inductive(ACC), Known::Inductive(W)])
 }

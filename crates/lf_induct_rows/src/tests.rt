@@ -1,10 +1,7 @@
-use crate::known::{ACC, AND, BAD, EQ, LIST, NAT, OR, VEC, W, lists, nothing};
+use crate::known::{ACC, AND, BAD, EQ, LIST, NAT, OR, VEC, W, families, lists, nothing};
 use crate::recursors::{recursor_rule, recursor_type};
-use lf_asking::{Addition, Wanted, adds_as_wanted};
-use lf_base::Budget;
-use lf_env::View;
-use lf_notation::{Declaration, Unread};
-use std::alloc::Global;
+use lf_asking::{Added, Addition, Asked, Call, Wanted, adds, holds};
+use lf_notation::Declaration;
 use std::test::Fail;
 
 #[test]
@@ -16,7 +13,11 @@ fn types_of_recursors(rt: HostRuntime) -> Result<(), Fail> {
         ),
         (
             LIST,
-            "∀ {α : Type u}, ∀ {motive : Demo.List α → Sort u_1}, motive (Demo.List.nil α) → (∀ (head : α), ∀ (tail : Demo.List α), motive tail → motive (Demo.List.cons α head tail)) → ∀ (t : Demo.List α), motive t",
+            concat!(
+                "∀ {α : Type u}, ∀ {motive : Demo.List α → Sort u_1}, motive (Demo.List.nil α) → ",
+                "(∀ (head : α), ∀ (tail : Demo.List α), motive tail → motive (Demo.List.cons α head tail)) → ",
+                "∀ (t : Demo.List α), motive t",
+            ),
         ),
         (
             EQ,
@@ -24,15 +25,25 @@ fn types_of_recursors(rt: HostRuntime) -> Result<(), Fail> {
         ),
         (
             ACC,
-            "∀ {α : Sort u}, ∀ {r : α → α → Prop}, ∀ {motive : ∀ (a : α), Acc α r a → Sort u_1}, (∀ (x : α), ∀ (h : ∀ (y : α), r y x → Acc α r y), (∀ (y : α), ∀ (a : r y x), motive y (h y a)) → motive x (Acc.intro α r x h)) → ∀ {a : α}, ∀ (t : Acc α r a), motive a t",
+            concat!(
+                "∀ {α : Sort u}, ∀ {r : α → α → Prop}, ∀ {motive : ∀ (a : α), Acc α r a → Sort u_1}, ",
+                "(∀ (x : α), ∀ (h : ∀ (y : α), r y x → Acc α r y), (∀ (y : α), ∀ (a : r y x), motive y (h y a)) → ",
+                "motive x (Acc.intro α r x h)) → ∀ {a : α}, ∀ (t : Acc α r a), motive a t",
+            ),
         ),
         (
             W,
-            "∀ {A : Type}, ∀ {B : A → Type}, ∀ {motive : W A B → Sort u}, (∀ (a : A), ∀ (f : B a → W A B), (∀ (a : B a), motive (f a)) → motive (W.sup A B a f)) → ∀ (t : W A B), motive t",
+            concat!(
+                "∀ {A : Type}, ∀ {B : A → Type}, ∀ {motive : W A B → Sort u}, ",
+                "(∀ (a : A), ∀ (f : B a → W A B), (∀ (a : B a), motive (f a)) → motive (W.sup A B a f)) → ∀ (t : W A B), motive t",
+            ),
         ),
         (
             OR,
-            "∀ {a : Prop}, ∀ {b : Prop}, ∀ {motive : a ∨ b → Prop}, (∀ (h : a), motive (Or.inl a b h)) → (∀ (h : b), motive (Or.inr a b h)) → ∀ (t : a ∨ b), motive t",
+            concat!(
+                "∀ {a : Prop}, ∀ {b : Prop}, ∀ {motive : a ∨ b → Prop}, ",
+                "(∀ (h : a), motive (Or.inl a b h)) → (∀ (h : b), motive (Or.inr a b h)) → ∀ (t : a ∨ b), motive t",
+            ),
         ),
     ];
     let view = nothing(rt.alloc())?;
@@ -45,8 +56,11 @@ fn types_of_recursors(rt: HostRuntime) -> Result<(), Fail> {
 
 #[test]
 fn type_at_an_index(rt: HostRuntime) -> Result<(), Fail> {
-    let wanted =
-        "∀ {α : Type}, ∀ {motive : ∀ (a : Nat), Vec α a → Sort u}, motive Nat.zero (Vec.nil α) → (∀ {n : Nat}, ∀ (head : α), ∀ (tail : Vec α n), motive n tail → motive (Nat.succ n) (Vec.cons α n head tail)) → ∀ {a : Nat}, ∀ (t : Vec α a), motive a t";
+    let wanted = concat!(
+        "∀ {α : Type}, ∀ {motive : ∀ (a : Nat), Vec α a → Sort u}, motive Nat.zero (Vec.nil α) → ",
+        "(∀ {n : Nat}, ∀ (head : α), ∀ (tail : Vec α n), motive n tail → motive (Nat.succ n) (Vec.cons α n head tail)) → ",
+        "∀ {a : Nat}, ∀ (t : Vec α a), motive a t",
+    );
     let view = lists(rt.alloc())?;
     let text = recursor_type(rt.alloc(), &view, &VEC)?;
     assert!(rt; text.as_str() == wanted, "{text}");
@@ -59,7 +73,11 @@ fn rules_of_recursors(rt: HostRuntime) -> Result<(), Fail> {
         (
             LIST,
             1,
-            "fun {α : Type u} => fun {motive : Demo.List α → Sort u_1} => fun (nil : motive (Demo.List.nil α)) => fun (cons : ∀ (head : α), ∀ (tail : Demo.List α), motive tail → motive (Demo.List.cons α head tail)) => fun (head : α) => fun (tail : Demo.List α) => cons head tail (Demo.List.rec α motive nil cons tail)",
+            concat!(
+                "fun {α : Type u} => fun {motive : Demo.List α → Sort u_1} => fun (nil : motive (Demo.List.nil α)) => ",
+                "fun (cons : ∀ (head : α), ∀ (tail : Demo.List α), motive tail → motive (Demo.List.cons α head tail)) => ",
+                "fun (head : α) => fun (tail : Demo.List α) => cons head tail (Demo.List.rec α motive nil cons tail)",
+            ),
         ),
         (
             EQ,
@@ -69,12 +87,21 @@ fn rules_of_recursors(rt: HostRuntime) -> Result<(), Fail> {
         (
             ACC,
             0,
-            "fun {α : Sort u} => fun {r : α → α → Prop} => fun {motive : ∀ (a : α), Acc α r a → Sort u_1} => fun (intro : ∀ (x : α), ∀ (h : ∀ (y : α), r y x → Acc α r y), (∀ (y : α), ∀ (a : r y x), motive y (h y a)) → motive x (Acc.intro α r x h)) => fun (x : α) => fun (h : ∀ (y : α), r y x → Acc α r y) => intro x h (fun (y : α) => fun (a : r y x) => Acc.rec α r motive intro y (h y a))",
+            concat!(
+                "fun {α : Sort u} => fun {r : α → α → Prop} => fun {motive : ∀ (a : α), Acc α r a → Sort u_1} => ",
+                "fun (intro : ∀ (x : α), ∀ (h : ∀ (y : α), r y x → Acc α r y), (∀ (y : α), ∀ (a : r y x), motive y (h y a)) → ",
+                "motive x (Acc.intro α r x h)) => fun (x : α) => fun (h : ∀ (y : α), r y x → Acc α r y) => ",
+                "intro x h (fun (y : α) => fun (a : r y x) => Acc.rec α r motive intro y (h y a))",
+            ),
         ),
         (
             W,
             0,
-            "fun {A : Type} => fun {B : A → Type} => fun {motive : W A B → Sort u} => fun (sup : ∀ (a : A), ∀ (f : B a → W A B), (∀ (a : B a), motive (f a)) → motive (W.sup A B a f)) => fun (a : A) => fun (f : B a → W A B) => sup a f (fun (a : B a) => W.rec A B motive sup (f a))",
+            concat!(
+                "fun {A : Type} => fun {B : A → Type} => fun {motive : W A B → Sort u} => ",
+                "fun (sup : ∀ (a : A), ∀ (f : B a → W A B), (∀ (a : B a), motive (f a)) → motive (W.sup A B a f)) => ",
+                "fun (a : A) => fun (f : B a → W A B) => sup a f (fun (a : B a) => W.rec A B motive sup (f a))",
+            ),
         ),
     ];
     let view = nothing(rt.alloc())?;
@@ -87,28 +114,23 @@ fn rules_of_recursors(rt: HostRuntime) -> Result<(), Fail> {
 
 #[test]
 fn costs(rt: HostRuntime) -> Result<(), Fail> {
-    let rows = [
+    let names = "Nat Nat.zero Nat.succ Nat.rec";
+    let rows: [Added; 6] = [
+        (Addition::Inductive(NAT), 18, 512, Wanted::Done(names, 0)),
+        (Addition::Inductive(NAT), 17, 512, Wanted::Out),
+        (Addition::Inductive(NAT), 18, 1, Wanted::Done(names, 0)),
+        (Addition::Inductive(NAT), 18, 0, Wanted::Out),
         (
-            NAT,
-            18,
+            Addition::Inductive(AND),
+            79,
             512,
-            Wanted::Done("Nat Nat.zero Nat.succ Nat.rec", 0),
+            Wanted::Done("And And.intro And.rec", 0),
         ),
-        (NAT, 17, 512, Wanted::Out),
-        (NAT, 18, 1, Wanted::Done("Nat Nat.zero Nat.succ Nat.rec", 0)),
-        (NAT, 18, 0, Wanted::Out),
-        (AND, 79, 512, Wanted::Done("And And.intro And.rec", 0)),
-        (AND, 78, 512, Wanted::Out),
+        (Addition::Inductive(AND), 78, 512, Wanted::Out),
     ];
     let view = nothing(rt.alloc())?;
-    for (written, units, depth, wanted) in &rows {
-        let budget = Budget {
-            units: *units,
-            depth: *depth,
-        };
-        let addition = Addition::Inductive(*written);
-        let holds = adds_as_wanted(rt.alloc(), &view, budget, &addition, wanted)?;
-        assert!(rt; holds, "{wanted:?}");
+    for row in &rows {
+        assert!(rt; adds(rt.alloc(), &view, row)?, "{row:?}");
     }
     Ok(())
 }
@@ -123,22 +145,7 @@ type RefusedRow = (
     &'static str,
 );
 
-fn refuses(
-    alloc: Global,
-    view: &View,
-    written: Declaration<'_>,
-    fault: &str,
-    opened: &str,
-) -> Result<bool, Unread> {
-    let budget = Budget {
-        units: 100_000,
-        depth: 512,
-    };
-    let wanted = Wanted::Refused(fault, opened);
-    adds_as_wanted(alloc, view, budget, &Addition::Inductive(written), &wanted)
-}
-
-fn is_refused(alloc: Global, view: &View, row: &RefusedRow) -> Result<bool, Unread> {
+fn refusal(row: &RefusedRow) -> Added {
     let (levels, params, ty, ctors, fault, opened) = *row;
     let written = Declaration {
         name: "T",
@@ -147,14 +154,16 @@ fn is_refused(alloc: Global, view: &View, row: &RefusedRow) -> Result<bool, Unre
         ty,
         ctors,
     };
-    refuses(alloc, view, written, fault, opened)
+    let wanted = Wanted::Refused(fault, opened);
+    (Addition::Inductive(written), 100_000, 512, wanted)
 }
 
 #[test]
 fn type_in_a_domain(rt: HostRuntime) -> Result<(), Fail> {
+    let wanted = Wanted::Refused("NotPositive Bad.mk 1", "");
+    let row: Added = (Addition::Inductive(BAD), 100_000, 512, wanted);
     let view = lists(rt.alloc())?;
-    let refused = refuses(rt.alloc(), &view, BAD, "NotPositive Bad.mk 1", "")?;
-    assert!(rt; refused);
+    assert!(rt; adds(rt.alloc(), &view, &row)?);
     Ok(())
 }
 
@@ -207,7 +216,7 @@ fn positivity(rt: HostRuntime) -> Result<(), Fail> {
     ];
     let view = lists(rt.alloc())?;
     for row in &rows {
-        assert!(rt; is_refused(rt.alloc(), &view, row)?, "{row:?}");
+        assert!(rt; adds(rt.alloc(), &view, &refusal(row))?, "{row:?}");
     }
     Ok(())
 }
@@ -268,7 +277,7 @@ fn ends(rt: HostRuntime) -> Result<(), Fail> {
     ];
     let view = lists(rt.alloc())?;
     for row in &rows {
-        assert!(rt; is_refused(rt.alloc(), &view, row)?, "{row:?}");
+        assert!(rt; adds(rt.alloc(), &view, &refusal(row))?, "{row:?}");
     }
     Ok(())
 }
@@ -335,7 +344,7 @@ fn fields(rt: HostRuntime) -> Result<(), Fail> {
     ];
     let view = lists(rt.alloc())?;
     for row in &rows {
-        assert!(rt; is_refused(rt.alloc(), &view, row)?, "{row:?}");
+        assert!(rt; adds(rt.alloc(), &view, &refusal(row))?, "{row:?}");
     }
     Ok(())
 }
@@ -354,7 +363,60 @@ fn types(rt: HostRuntime) -> Result<(), Fail> {
     ];
     let view = lists(rt.alloc())?;
     for row in &rows {
-        assert!(rt; is_refused(rt.alloc(), &view, row)?, "{row:?}");
+        assert!(rt; adds(rt.alloc(), &view, &refusal(row))?, "{row:?}");
+    }
+    Ok(())
+}
+
+// A constructor with a field that is a function into the type; and a proof that is no constructor. The call, one for the
+// major premise, the nodes of the rule at its levels with its arguments, and those that each of its lambdas leaves:
+// 2 + 142 + 127 + 120 + 105 + 53 + 51 + 34 and 2 + 103 + 87 + 81 + 71 + 37 + 35 + 25.
+#[test]
+fn reduction_by_recursors(rt: HostRuntime) -> Result<(), Fail> {
+    let access = "@6 (Acc.rec/2 '1 '0) $0 $1 $2 $3 $4 (@4 (Acc.intro/1 '0) $0 $1 $4 $5)";
+    let below =
+        "@3 $3 $4 $5 (fun:y $0 (fun:a (@2 $1 #0 $4) (@6 (Acc.rec/2 '1 '0) $0 $1 $2 $3 #1 (@2 $5 #1 #0))))";
+    let stuck = "@6 (Acc.rec/2 '1 '0) $0 $1 $2 $3 $4 $5";
+    let tree = "@5 (W.rec/1 '1) $0 $1 $2 $3 (@4 W.sup $0 $1 $4 $5)";
+    let subtrees = "@3 $3 $4 $5 (fun:a (@ $1 $4) (@5 (W.rec/1 '1) $0 $1 $2 $3 (@ $5 #0)))";
+    let rows: [Asked; 5] = [
+        (Call::Whnf, "", access, 634, Wanted::Done(below, 0)),
+        (Call::Whnf, "", access, 633, Wanted::Out),
+        (Call::Whnf, "", stuck, 2, Wanted::Done(stuck, 0)),
+        (Call::Whnf, "", tree, 441, Wanted::Done(subtrees, 0)),
+        (Call::Whnf, "", tree, 440, Wanted::Out),
+    ];
+    let view = families(rt.alloc())?;
+    for row in &rows {
+        assert!(rt; holds(rt.alloc(), &view, row)?, "{row:?}");
+    }
+    Ok(())
+}
+
+// `NotPositive T.mk 2` under `n`, `LevelTooHigh T.mk 1`, `BadResult T.mk` and `BadType`: each row is wrong by one thing.
+#[test]
+fn rows_that_do_not_hold(rt: HostRuntime) -> Result<(), Fail> {
+    let inside: &[(&str, &str)] = &[("T.mk", "pi:n Nat (pi:f (pi:a (pi:a Nat T) T) T)")];
+    let high: &[(&str, &str)] = &[("T.mk", "pi:A Type T")];
+    let end: &[(&str, &str)] = &[("T.mk", "Nat")];
+    let rows: [RefusedRow; 13] = [
+        ("", 0, "Type", inside, "NotPositive T.mk 1", "n"),
+        ("", 0, "Type", inside, "NotPositive T.mk 3", "n"),
+        ("", 0, "Type", inside, "NotPositive T.mk", "n"),
+        ("", 0, "Type", inside, "NotPositive T.up 2", "n"),
+        ("", 0, "Type", inside, "LevelTooHigh T.mk 2", "n"),
+        ("", 0, "Type", inside, "NotPositive T.mk 2", ""),
+        ("", 0, "Type", inside, "NotPositive T.mk 2", "f"),
+        ("", 0, "Type", inside, "NotPositive T.mk 2", "n f"),
+        ("", 0, "Type", high, "LevelTooHigh T.mk 2", ""),
+        ("", 0, "Type", high, "LevelTooHigh T.up 1", ""),
+        ("", 0, "Type", end, "BadResult T.up", ""),
+        ("", 0, "Nat", &[], "BadType T", ""),
+        ("", 0, "Nat", &[], "NotClosed", ""),
+    ];
+    let view = lists(rt.alloc())?;
+    for row in &rows {
+        assert!(rt; !adds(rt.alloc(), &view, &refusal(row))?, "{row:?}");
     }
     Ok(())
 }

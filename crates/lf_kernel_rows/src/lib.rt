@@ -6,3 +6,5 @@ mod sizes;
 mod stops;
 #[cfg(test)]
 mod tests;
+#[cfg(test)]
+mod wrong;

@@ -1,27 +1,13 @@
 use crate::known::{NAT, axioms, document, heights};
 use crate::sizes::{additions, form_of, many_axioms, tower, wide};
 use crate::stops::stopped_and_asked_again;
-use lf_asking::{Addition, Asked, Call, Wanted, adds_as_wanted, holds};
-use lf_base::Budget;
-use lf_env::View;
-use lf_notation::{Declaration, Unread, term};
-use std::alloc::Global;
+use lf_asking::{Added, Addition, Asked, Call, Wanted, adds, holds};
+use lf_notation::{Declaration, term};
 use std::test::Fail;
-
-fn adds(
-    alloc: Global,
-    view: &View,
-    addition: &Addition<'_>,
-    units: u64,
-    depth: u32,
-    wanted: &Wanted<'_>,
-) -> Result<bool, Unread> {
-    adds_as_wanted(alloc, view, Budget { units, depth }, addition, wanted)
-}
 
 #[test]
 fn theorems_over_axioms(rt: HostRuntime) -> Result<(), Fail> {
-    let rows = [
+    let rows: [Added; 6] = [
         (
             Addition::Theorem("t", "A", "a"),
             1000,
@@ -60,18 +46,15 @@ fn theorems_over_axioms(rt: HostRuntime) -> Result<(), Fail> {
         ),
     ];
     let view = axioms(rt.alloc())?;
-    for (addition, units, depth, wanted) in &rows {
-        assert!(rt;
-            adds(rt.alloc(), &view, addition, *units, *depth, wanted)?,
-            "{addition:?}"
-        );
+    for row in &rows {
+        assert!(rt; adds(rt.alloc(), &view, row)?, "{row:?}");
     }
     Ok(())
 }
 
 #[test]
 fn headers(rt: HostRuntime) -> Result<(), Fail> {
-    let rows = [
+    let rows: [Added; 8] = [
         (Addition::Header("k", "Prop"), 2, 1, Wanted::Done("Type", 0)),
         (Addition::Header("k", "Prop"), 2, 0, Wanted::Out),
         (Addition::Header("k", "Prop"), 1, 1, Wanted::Out),
@@ -102,18 +85,15 @@ fn headers(rt: HostRuntime) -> Result<(), Fail> {
         ),
     ];
     let view = heights(rt.alloc())?;
-    for (addition, units, depth, wanted) in &rows {
-        assert!(rt;
-            adds(rt.alloc(), &view, addition, *units, *depth, wanted)?,
-            "{addition:?}"
-        );
+    for row in &rows {
+        assert!(rt; adds(rt.alloc(), &view, row)?, "{row:?}");
     }
     Ok(())
 }
 
 #[test]
 fn values_and_heights(rt: HostRuntime) -> Result<(), Fail> {
-    let rows = [
+    let rows: [Added; 7] = [
         (
             Addition::Theorem("k", "Type", "Prop"),
             2,
@@ -153,11 +133,8 @@ fn values_and_heights(rt: HostRuntime) -> Result<(), Fail> {
         ),
     ];
     let view = heights(rt.alloc())?;
-    for (addition, units, depth, wanted) in &rows {
-        assert!(rt;
-            adds(rt.alloc(), &view, addition, *units, *depth, wanted)?,
-            "{addition:?}"
-        );
+    for row in &rows {
+        assert!(rt; adds(rt.alloc(), &view, row)?, "{row:?}");
     }
     Ok(())
 }
@@ -181,34 +158,22 @@ fn typed(
     })
 }
 
-fn refused(
-    alloc: Global,
-    view: &View,
-    addition: &Addition<'_>,
-    fault: &str,
-) -> Result<bool, Unread> {
-    adds(
-        alloc,
-        view,
-        addition,
-        100_000,
-        512,
-        &Wanted::Refused(fault, ""),
-    )
+fn refusal(addition: Addition<'static>, fault: &'static str) -> Added {
+    (addition, 100_000, 512, Wanted::Refused(fault, ""))
 }
 
 #[test]
 fn names_that_are_there(rt: HostRuntime) -> Result<(), Fail> {
     let rows = [
-        (typed("f", "Type", &[]), "Duplicate f 3"),
-        (typed("Nat", "Type", &[]), "Duplicate Nat 4294967295"),
-        (named(&[("g", "T")]), "Duplicate g 4"),
-        (typed("S", "Type", &[]), "Duplicate S.rec 5"),
-        (typed("f", "$0", &[]), "NotClosed"),
+        refusal(typed("f", "Type", &[]), "Duplicate f 3"),
+        refusal(typed("Nat", "Type", &[]), "Duplicate Nat 4294967295"),
+        refusal(named(&[("g", "T")]), "Duplicate g 4"),
+        refusal(typed("S", "Type", &[]), "Duplicate S.rec 5"),
+        refusal(typed("f", "$0", &[]), "NotClosed"),
     ];
     let view = document(rt.alloc())?;
-    for (addition, fault) in &rows {
-        assert!(rt; refused(rt.alloc(), &view, addition, fault)?, "{fault}");
+    for row in &rows {
+        assert!(rt; adds(rt.alloc(), &view, row)?, "{row:?}");
     }
     Ok(())
 }
@@ -216,36 +181,88 @@ fn names_that_are_there(rt: HostRuntime) -> Result<(), Fail> {
 #[test]
 fn names_that_come_twice(rt: HostRuntime) -> Result<(), Fail> {
     let rows = [
-        (
+        refusal(
             named(&[("T.a", "T"), ("T.b", "T"), ("T.a", "T")]),
             "Duplicate T.a 7",
         ),
-        (named(&[("T", "T")]), "Duplicate T 7"),
-        (named(&[("T.rec", "T")]), "Duplicate T.rec 7"),
+        refusal(named(&[("T", "T")]), "Duplicate T 7"),
+        refusal(named(&[("T.rec", "T")]), "Duplicate T.rec 7"),
     ];
     let view = document(rt.alloc())?;
-    for (addition, fault) in &rows {
-        assert!(rt; refused(rt.alloc(), &view, addition, fault)?, "{fault}");
+    for row in &rows {
+        assert!(rt; adds(rt.alloc(), &view, row)?, "{row:?}");
     }
     Ok(())
 }
 
+// A name that may still be made is no entry, so a header may have it.
 #[test]
 fn what_is_needed_first(rt: HostRuntime) -> Result<(), Fail> {
-    let rows = [
-        (named(&[("T.mk", "pi:x g T")]), "Body 3"),
-        (named(&[("T.mk", "pi:x f.aux T")]), "Body 3"),
-        (named(&[("T.mk", "pi:x h.eq_1 T")]), "Real h.eq_1"),
-        (typed("f.aux", "Type", &[]), "Body 3"),
-        (named(&[("T.a", "T"), ("f.aux", "T")]), "Body 3"),
+    let rows: [Added; 10] = [
+        (
+            named(&[("T.mk", "pi:x g T")]),
+            100_000,
+            512,
+            Wanted::Need("Body 3"),
+        ),
+        (
+            named(&[("T.mk", "pi:x f.aux T")]),
+            100_000,
+            512,
+            Wanted::Need("Body 3"),
+        ),
+        (
+            named(&[("T.mk", "pi:x h.eq_1 T")]),
+            100_000,
+            512,
+            Wanted::Need("Real h.eq_1"),
+        ),
+        (
+            typed("f.aux", "Type", &[]),
+            100_000,
+            512,
+            Wanted::Need("Body 3"),
+        ),
+        (
+            named(&[("T.a", "T"), ("f.aux", "T")]),
+            100_000,
+            512,
+            Wanted::Need("Body 3"),
+        ),
+        (
+            Addition::Header("f.aux", "Prop"),
+            100,
+            512,
+            Wanted::Need("Body 3"),
+        ),
+        (
+            Addition::Header("k", "h.eq_1"),
+            100,
+            512,
+            Wanted::Need("Real h.eq_1"),
+        ),
+        (
+            Addition::Theorem("k", "Nat", "h.eq_1"),
+            100,
+            512,
+            Wanted::Need("Real h.eq_1"),
+        ),
+        (
+            Addition::Theorem("k", "h.eq_1", "0"),
+            100,
+            512,
+            Wanted::Need("Real h.eq_1"),
+        ),
+        (
+            Addition::Header("h.eq_1", "Prop"),
+            2,
+            1,
+            Wanted::Done("Type", 0),
+        ),
     ];
     let view = document(rt.alloc())?;
-    for (addition, key) in &rows {
-        let wanted = Wanted::Need(key);
-        assert!(rt;
-            adds(rt.alloc(), &view, addition, 100_000, 512, &wanted)?,
-            "{key}"
-        );
+    for row in &rows {
+        assert!(rt; adds(rt.alloc(), &view, row)?, "{row:?}");
     }
     Ok(())
 }
@@ -260,16 +277,6 @@ fn stops_at_each_poll(rt: HostRuntime) -> Result<(), Fail> {
         let same = stopped_and_asked_again(rt.alloc(), &view, &addition, 18, poll, &wanted)?;
         assert!(rt; same, "{poll}");
     }
-    Ok(())
-}
-
-#[test]
-fn no_stop_behind_the_last_poll(rt: HostRuntime) -> Result<(), Fail> {
-    let view = axioms(rt.alloc())?;
-    let addition = Addition::Inductive(NAT);
-    let wanted = Wanted::Done("Nat Nat.zero Nat.succ Nat.rec", 0);
-    let same = stopped_and_asked_again(rt.alloc(), &view, &addition, 18, 9, &wanted)?;
-    assert!(rt; !same);
     Ok(())
 }
 

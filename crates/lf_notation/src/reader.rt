@@ -264,7 +264,8 @@ impl Reader {
 /// `#0` is a bound variable by its index, `$0` a free one by its place, `?0` a metavariable, digits a literal; `Prop`,
 /// `Type` and `Sort` before a level are sorts. `Nat` is a constant, `Eq/1` one before its level. `@ f a` and `@2 f a b`
 /// are applications, `fun:x A b` and `pi:x A B` what they say, with `{x}` for a binder in braces and `[x]` for one in
-/// brackets; `let:x A v b`; `proj:P:0 t`; `twice:3 t` is t applied to itself, three times over. Levels stand behind a quote: `'1`, `'u0` a parameter, `'m0` a metavariable, `'succ`, `'max`, `'imax`.
+/// brackets; `let:x A v b`; `proj:P:0 t`; `twice:3 t` is t applied to itself, three times over. Levels stand behind a
+/// quote: `'1`, `'u0` a parameter, `'m0` a metavariable, `'succ`, `'max`, `'imax`.
 pub fn terms(alloc: Global, text: &str) -> Result<Vec<Expr>, Unread> {
     let mut reader = Reader {
         alloc,
