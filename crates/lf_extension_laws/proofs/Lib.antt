@@ -3,4 +3,13 @@ pub mod Extended
 pub mod Extended_declarations
 pub mod Pushed
 pub mod Extended_admission
+pub mod Only
+pub mod OnlyWhnf
+pub mod OnlyEqual
+pub mod OnlyInfer
+pub mod Wanted
+pub mod Waiting
 pub mod Calm
+pub mod Enough
+pub mod EnoughWhnf
+pub mod EnoughEqual

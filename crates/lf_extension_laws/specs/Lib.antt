@@ -1,2 +1,4 @@
 pub mod Extension
 pub mod Calm
+pub mod Needs
+pub mod Enough
