@@ -109,7 +109,7 @@ ctors_of Plain = []
 ctors_of (Ctor ind index params fields) = []
 ctors_of (Rec ind params minors indices rules) = []
 
--- A field whose type is pis that end in the inductive type: the hypothesis for it is `fun zs => f bs (x zs)`.
+-- A recursive field: its type is pis that end in the inductive type.
 abbrev pub ends_in : Path → Term → Bool
 ends_in I (pi x A B) = ends_in I B
 ends_in I (bound i) = false
@@ -127,37 +127,55 @@ ends_in I (letin x A v b) = false
 ends_in I (lit n) = false
 ends_in I (proj s i t) = false
 
-abbrev pub hypotheses : Path → Term → ℕ → Telescope → List Term
-hypotheses I f k [] = []
-hypotheses I f k (x ∷ xs) =
-    if ends_in I x.ty
-    then lambdas_like x.ty (app f (apply (free k) (innermost (pi_count x.ty)))) ∷ hypotheses I f (suc k) xs
-    else hypotheses I f (suc k) xs
+-- Of the fields of a constructor's own type, before its parameters are put in: a parameter that is the type again makes no field recursive.
+abbrev pub recursive_fields : Path → ℕ → Term → List Bool
+recursive_fields I (suc n) (pi x A B) = recursive_fields I n B
+recursive_fields I zero (pi x A B) = ends_in I A ∷ recursive_fields I zero B
+recursive_fields I n (bound i) = []
+recursive_fields I n (free k) = []
+recursive_fields I n (meta k) = []
+recursive_fields I n (sort l) = []
+recursive_fields I n (const c ls) = []
+recursive_fields I n (app f a) = []
+recursive_fields I n (lam x A b) = []
+recursive_fields I n (letin x A v b) = []
+recursive_fields I n (lit i) = []
+recursive_fields I n (proj s i t) = []
+
+-- The hypothesis for a field whose type is pis is `fun zs => f bs (x zs)`.
+abbrev pub hypothesis : Term → ℕ → Term → Term
+hypothesis f k A = lambdas_like A (app f (apply (free k) (innermost (pi_count A))))
+
+abbrev pub hypotheses : Term → ℕ → List Bool → Telescope → List Term
+hypotheses f k (true ∷ rs) (x ∷ xs) = hypothesis f k x.ty ∷ hypotheses f (suc k) rs xs
+hypotheses f k (false ∷ rs) (x ∷ xs) = hypotheses f (suc k) rs xs
+hypotheses f k [] (x ∷ xs) = []
+hypotheses f k rs [] = []
 
 -- A term at arguments that are put for its leading lambdas.
 abbrev pub put_all : Put → List Term → Term
 put_all t [] = t.term
 put_all t (x ∷ xs) = put_all (put_before t x) xs
 
-abbrev pub case_at : Calls → Path → List Path → Recursion → Path → Term → Option Term → Run (Option Statement)
-case_at c f levels r n ty None = gives None
-case_at c f levels r n ty (Some minor) = do
+abbrev pub case_at : Calls → Path → List Path → Recursion → Path → List Bool → Term → Option Term → Run (Option Statement)
+case_at c f levels r n rs ty None = gives None
+case_at c f levels r n rs ty (Some minor) = do
   let k = length r.binders
   let g = self f levels r.binders
   o ← open_pis (pi_count ty) (types r.binders) ty
   let xs = variables k o.locals
-  e ← made (put_all (record { term = minor; lambdas = leading_lambdas minor }) (xs ++ hypotheses r.ind g k o.locals))
+  e ← made (put_all (record { term = minor; lambdas = leading_lambdas minor }) (xs ++ hypotheses g k rs o.locals))
   by_reflexivity c (r.binders ++ o.locals) (app g (apply (const n r.levels) (r.params ++ xs))) e
 
-abbrev pub case_typed : Calls → Path → List Path → Recursion → Path → ℕ → Option Term → Run (Option Statement)
-case_typed c f levels r n i None = gives None
-case_typed c f levels r n i (Some T) = case_at c f levels r n T (slice_get r.minors i)
+abbrev pub case_typed : Calls → Path → List Path → Recursion → Path → ℕ → List Bool → Option Term → Run (Option Statement)
+case_typed c f levels r n i rs None = gives None
+case_typed c f levels r n i rs (Some T) = case_at c f levels r n rs T (slice_get r.minors i)
 
 abbrev pub case_seen : Calls → Path → List Path → Recursion → ℕ → Path → Seen → Run (Option Statement)
 case_seen c f levels r i n (known k) = do
   T ← made (level_instantiate r.levels k.ty)
   B ← codomain_at r.params T
-  case_typed c f levels r n i B
+  case_typed c f levels r n i (recursive_fields r.ind (length r.params) k.ty) B
 case_seen c f levels r i n unknown = gives None
 case_seen c f levels r i n (missing k) = needs k
 

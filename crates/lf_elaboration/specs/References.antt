@@ -1,7 +1,6 @@
 -- The names that a written term refers to: an identifier that stands as a term refers to constants and variables, a name in a level to a
 -- level. A name that is being bound, or that a proof item has by itself, refers to nothing.
 use Rattle.std.specs.Prelude.{List, [], ◌∷◌, ◌++◌, Option, Some, None, flat_map}
-use Rattle.lf_name.specs.Name.{Path}
 use Rattle.lf_syntax.specs.TermNode.{binders_tree}
 use Rattle.lf_syntax.specs.Tree.{
   LevelTree,
@@ -94,15 +93,13 @@ use Rattle.lf_syntax.specs.declared.command.Command.TheVariants.{
   PrintAxioms,
   Bad,
 }
-
-pub data Reference : Type 0 where
-  to_term : Path → Reference
-  to_level : Path → Reference
+use Rattle.lf_elaboration.specs.declared.reference.Reference.{Reference}
+use Rattle.lf_elaboration.specs.declared.reference.Reference.TheVariants as reference
 
 abbrev mutual
   pub level_references : LevelTree → List Reference
   level_references (level_number n) = []
-  level_references (level_name x) = to_level x.name ∷ []
+  level_references (level_name x) = reference.Level x.name ∷ []
   level_references (level_plus at l n) = level_references l
   level_references (level_max at ls) = levels_references ls
   level_references (level_imax at l m) = level_references l ++ level_references m
@@ -117,7 +114,7 @@ optional_level (Some l) = level_references l
 
 abbrev mutual
   pub term_references : TermTree → List Reference
-  term_references (ident at e x ls) = to_term x.name ∷ flat_map level_references ls
+  term_references (ident at e x ls) = reference.Term x.name ∷ flat_map level_references ls
   term_references (numeral n) = []
   term_references (hole at) = []
   term_references (sorry_term at) = []

@@ -29,11 +29,14 @@ use Rattle.lf_name.specs.Same.{same_path}
 use Rattle.lf_rules.specs.Recursor.{is_among}
 use Rattle.lf_name.specs.declared.binder.BinderKind.{BinderKind}
 use Rattle.lf_name.specs.declared.binder.BinderKind.TheVariants.{Explicit, Implicit, Inst}
-use Rattle.lf_syntax.specs.Tree.{TermTree, BindersTree, binders}
+use Rattle.lf_syntax.specs.Tree.{BindersTree, binders}
 use Rattle.lf_syntax.specs.declared.leaf.Ident.{Ident}
 use Rattle.lf_syntax.specs.declared.command.Command.{Command}
 use Rattle.lf_elaboration.specs.Scope.{Scope}
-use Rattle.lf_elaboration.specs.References.{Reference, to_term, to_level, term_references, header_references}
+use Rattle.lf_elaboration.specs.References.{term_references, header_references}
+use Rattle.lf_elaboration.specs.declared.reference.Reference.{Reference}
+use Rattle.lf_elaboration.specs.declared.reference.Reference.TheVariants as reference
+use Rattle.lf_elaboration.specs.declared.variable.Variable.{Variable}
 
 -- ---- Names in references
 
@@ -43,12 +46,12 @@ begins_with x [] = false
 begins_with x (part ∷ parts) = same_path x (part ∷ [])
 
 abbrev pub names_variable : Path → Reference → Bool
-names_variable x (to_term n) = begins_with x n
-names_variable x (to_level n) = false
+names_variable x (reference.Term n) = begins_with x n
+names_variable x (reference.Level n) = false
 
 abbrev pub names_level : Path → Reference → Bool
-names_level x (to_term n) = same_path x n
-names_level x (to_level n) = same_path x n
+names_level x (reference.Term n) = same_path x n
+names_level x (reference.Level n) = same_path x n
 
 abbrev pub any : {A : Type 0} → (A → Bool) → List A → Bool
 any p [] = false
@@ -59,12 +62,6 @@ all p [] = true
 all p (x ∷ xs) = p x && all p xs
 
 -- ---- Variables
-
--- A variable, each of a group by itself.
-pub record Variable : Type 0 where
-  pub kind : BinderKind
-  pub name : Ident
-  pub ty : TermTree
 
 abbrev pub in_group : BindersTree → List Variable
 in_group (binders at k xs t) = map (λ x. record { kind = k; name = x; ty = t }) xs

@@ -2,3 +2,5 @@ mod Worked
 mod Realized
 mod Scopes
 mod Settled
+mod Forms
+mod Items

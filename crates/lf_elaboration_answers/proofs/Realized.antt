@@ -24,6 +24,7 @@ realized = record {
   equivalence_of_two = refl;
   first_case = refl;
   second_case = refl;
+  list_of_lists = refl;
   no_third_case = refl;
   no_recursion = refl;
   too_few_units = refl;

@@ -4,3 +4,6 @@ pub mod Worked
 pub mod Realized
 pub mod Scopes
 pub mod Settled
+pub mod Larger
+pub mod Forms
+pub mod Items

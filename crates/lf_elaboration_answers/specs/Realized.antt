@@ -1,6 +1,6 @@
 -- Constants that are made on demand: their statements as they are printed; that the kernel accepts their proofs is part of being made.
 use Rattle.std.specs.Prelude.{◌≡◌, ℕ, true, false, Option, Some, None, List, [], ◌∷◌, ◌++◌}
-use Rattle.lf_core.specs.Term.{Path, Universe, level_imax, level_param, Term, bound, sort, const, app, lam, pi, lit}
+use Rattle.lf_core.specs.Term.{Path, Universe, level_zero, level_imax, level_param, Term, bound, sort, const, app, lam, pi, lit}
 use Rattle.lf_core.specs.Spine.{apply}
 use Rattle.lf_core.specs.declared.constant.ConstInfo.{ConstInfo}
 use Rattle.lf_core.specs.declared.constant.ConstKind.TheVariants.{Axiom, Def}
@@ -69,6 +69,19 @@ abbrev pub dbl : ConstInfo
 dbl = definition (word "dbl") (nat ⟶ nat) (lam (explicit "a") nat (apply (const (dotted "Nat" "rec") (one ∷ []))
     (lam (explicit "a") nat nat ∷ lit 0 ∷ lam (explicit "n") nat (lam (explicit "n_ih") nat (app nat_succ (app nat_succ (bound 0)))) ∷ bound 0 ∷ [])))
 
+-- def len : List (List Nat) → Nat | nil => 0 | cons head tail => Nat.succ (len tail), where the first field is a list too, but of numbers
+abbrev pub list_of : Term → Term
+list_of A = app (const (dotted "Demo" "List") (level_zero ∷ [])) A
+
+abbrev pub lists : Term
+lists = list_of (list_of nat)
+
+abbrev pub len : ConstInfo
+len = definition (word "len") (lists ⟶ nat) (lam (explicit "a") lists
+    (apply (const (text "Demo" ∷ text "List" ∷ text "rec" ∷ []) (one ∷ level_zero ∷ []))
+    (list_of nat ∷ lam (explicit "a") lists nat ∷ lit 0
+    ∷ lam (explicit "head") (list_of nat) (lam (explicit "tail") lists (lam (explicit "tail_ih") nat (app nat_succ (bound 0)))) ∷ bound 0 ∷ [])))
+
 -- def s : Nat := sorryAx Nat
 abbrev pub unproved : ConstInfo
 unproved = definition (word "s") nat (app (const (word "sorryAx") (one ∷ [])) nat)
@@ -79,7 +92,7 @@ by_unproved = definition (word "t") nat (app (at "next") (at "s"))
 
 abbrev pub V : View
 V = base_view (base ++ (declared_constants iff_declaration false ++ (declared_constants list_declaration true
-    ++ congr_arg ∷ congr ∷ propext ∷ and_left ∷ and_right ∷ next ∷ dbl ∷ unproved ∷ by_unproved ∷ [])))
+    ++ congr_arg ∷ congr ∷ propext ∷ and_left ∷ and_right ∷ next ∷ dbl ∷ len ∷ unproved ∷ by_unproved ∷ [])))
 
 abbrev pub statement : Realized → Option (List ℕ)
 statement (makes c) = Some (print_text [] c.levels c.ty)
@@ -115,6 +128,9 @@ pub record RealizedAnswers : Type 0 where
       (text "∀ {α : Type u}, ∀ {head : α}, ∀ {tail : Demo.List α}, ∀ {head' : α}, ∀ {tail' : Demo.List α}, (Demo.List.cons α head tail = Demo.List.cons α head' tail') = (head = head' ∧ tail = tail')")
   pub first_case : made (dotted "dbl" "eq_2") ≡ Some (text "dbl Nat.zero = 0")
   pub second_case : made (dotted "dbl" "eq_3") ≡ Some (text "∀ (n : Nat), dbl (Nat.succ n) = Nat.succ (Nat.succ (dbl n))")
+  -- a field of the parameter's type isn't recursive
+  pub list_of_lists : made (dotted "len" "eq_3") ≡ Some
+      (text "∀ (head : Demo.List Nat), ∀ (tail : Demo.List (Demo.List Nat)), len (Demo.List.cons (Demo.List Nat) head tail) = Nat.succ (len tail)")
   pub no_third_case : made (dotted "dbl" "eq_4") ≡ None
   pub no_recursion : made (dotted "next" "eq_2") ≡ None
   pub too_few_units : statement (realize V 3 512 (dotted "f" "eq_1")) ≡ None

@@ -1,6 +1,7 @@
 pub mod Kept
 pub mod Extended
 pub mod Calm
+pub mod CalmUnifier
 pub mod Parts
 pub mod Terms
 pub mod Steps
@@ -9,7 +10,17 @@ pub mod Reached
 pub mod Realizing
 pub mod Keeping
 pub mod KeepingTerms
+pub mod OnlySteps
+pub mod KeepingParts
+pub mod KeepingRules
 pub mod KeepingItems
+pub mod Growing
+pub mod KeepingLaws
+pub mod Pending
+pub mod Running
+pub mod RealizingWaits
 pub mod Walking
 pub mod Wanted
 pub mod Closed
+pub mod Again
+pub mod AgainUnifier

@@ -1,5 +1,5 @@
 -- The extension law of realized constants.
-use Rattle.std.proofs.Common.{ℕ, suc, ◌-◌, List, [], ◌∷◌, Option, Some, None, refl, subst}
+use Rattle.std.proofs.Common.{ℕ, suc, ◌-◌, Bool, List, [], ◌∷◌, Option, Some, None, refl, subst}
 use Rattle.lf_core.specs.Term.{Path, Term}
 use Rattle.lf_core.specs.Suffix.{suffix_of}
 use Rattle.lf_core.specs.declared.suffix.Suffix.{Suffix}
@@ -103,15 +103,15 @@ module _ (U V : View) (x : Tells V U) (c d : Calls) (a : Agree c d) where
 
   -- ---- Cases
 
-  kept_case_at : (f : Path) (ls : List Path) (r : Recursion) (n : Path) (ty : Term) (o : Option Term) (u : ℕ)
-      → Kept (case_at c f ls r n ty o u) (case_at d f ls r n ty o u)
-  kept_case_at f ls r n ty None u = refl
-  kept_case_at f ls r n ty (Some m) u = search (kept, kept_reflexivity) depth 12
+  kept_case_at : (f : Path) (ls : List Path) (r : Recursion) (n : Path) (rs : List Bool) (ty : Term) (o : Option Term) (u : ℕ)
+      → Kept (case_at c f ls r n rs ty o u) (case_at d f ls r n rs ty o u)
+  kept_case_at f ls r n rs ty None u = refl
+  kept_case_at f ls r n rs ty (Some m) u = search (kept, kept_reflexivity) depth 12
 
-  kept_case_typed : (f : Path) (ls : List Path) (r : Recursion) (n : Path) (i : ℕ) (o : Option Term) (u : ℕ)
-      → Kept (case_typed c f ls r n i o u) (case_typed d f ls r n i o u)
-  kept_case_typed f ls r n i None u = refl
-  kept_case_typed f ls r n i (Some T) u = search (kept_case_at)
+  kept_case_typed : (f : Path) (ls : List Path) (r : Recursion) (n : Path) (i : ℕ) (rs : List Bool) (o : Option Term) (u : ℕ)
+      → Kept (case_typed c f ls r n i rs o u) (case_typed d f ls r n i rs o u)
+  kept_case_typed f ls r n i rs None u = refl
+  kept_case_typed f ls r n i rs (Some T) u = search (kept_case_at)
 
   kept_case_seen : (f : Path) (ls : List Path) (r : Recursion) (i : ℕ) (n : Path) (q : Seen) (u : ℕ)
       → Kept (case_seen c f ls r i n q u) (case_seen d f ls r i n q u)

@@ -4,3 +4,5 @@ pub mod Reached
 pub mod Keeping
 pub mod Needs
 pub mod Closed
+pub mod Once
+pub mod Enough

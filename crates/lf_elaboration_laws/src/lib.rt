@@ -2,6 +2,7 @@
 #![tactic(auto)]
 
 ghost use Rattle.lf_elaboration_laws.specs.Closed.{BinderDetermines, ClosingDetermines};
+ghost use Rattle.lf_elaboration_laws.specs.Enough.{UnifierAgain};
 ghost use Rattle.lf_elaboration_laws.specs.Extension.{
   BinderExtends,
   ClosingExtends,
@@ -12,7 +13,16 @@ ghost use Rattle.lf_elaboration_laws.specs.Extension.{
   WalkExtends,
 };
 ghost use Rattle.lf_elaboration_laws.specs.Keeping.{BinderKeeps, ClosingKeeps, ProofsKeep, TermsKeep};
-ghost use Rattle.lf_elaboration_laws.specs.Needs.{WalkWants};
+ghost use Rattle.lf_elaboration_laws.specs.Needs.{
+  BinderWaits,
+  ClosingWaits,
+  ProofsWait,
+  RealizingWaits,
+  TermsWait,
+  UnifierWaits,
+  WalkWants,
+};
+ghost use Rattle.lf_elaboration_laws.specs.Once.{ClosingRunsEach, ProofsAddNone, TermsAdd};
 ghost use Rattle.lf_elaboration_laws.specs.Reached.{WalkMeetsReaching};
 ghost use Rattle.lf_elaboration_laws.specs.Unifier.{UnifierIsCalm};
 
@@ -64,6 +74,36 @@ pub fn walk_waits_for_the_view()
     ensures { WalkWants }
 {}
 
+/// What the unifier waits for is an open branch of the view, or a realizable name that has no answer there.
+pub fn unifier_waits_for_the_view()
+    ensures { UnifierWaits }
+{}
+
+/// The same of what elaboration of a term waits for, where the resolution of instances waits for nothing else.
+pub fn terms_wait_for_the_view()
+    ensures { TermsWait }
+{}
+
+/// The same of a proof by items.
+pub fn proofs_wait_for_the_view()
+    ensures { ProofsWait }
+{}
+
+/// The same of the end of a part.
+pub fn closing_waits_for_the_view()
+    ensures { ClosingWaits }
+{}
+
+/// The same of a binder that closes.
+pub fn binders_wait_for_the_view()
+    ensures { BinderWaits }
+{}
+
+/// What the making of a realizable name waits for is an open branch of the view, or another such name without an answer.
+pub fn realizing_waits_for_the_view()
+    ensures { RealizingWaits }
+{}
+
 /// After false, and after a spent budget, the changes are as before, after true they begin with those before; the
 /// unifier never answers with an error.
 pub fn false_changes_nothing()
@@ -101,4 +141,27 @@ pub fn closing_determines_all()
 /// context for one that speaks of a variable outside of its context.
 pub fn binders_determine_all()
     ensures { BinderDetermines }
+{}
+
+/// Whatever elaboration of a term answers, the holes that waited wait still, in their order, before those that it made,
+/// whose metavariables are new.
+pub fn terms_take_no_hole()
+    ensures { TermsAdd }
+{}
+
+/// A proof by items leaves the holes that waited, and no other.
+pub fn proofs_leave_no_hole()
+    ensures { ProofsAddNone }
+{}
+
+/// A close runs each block that was made from the given number on once, with a node for each; none of them waits
+/// behind it, and the others wait still.
+pub fn closing_runs_each_block_once()
+    ensures { ClosingRunsEach }
+{}
+
+/// What the unifier answers with some nesting and some units it answers with more, and the units that are left are as
+/// many more; only where it gives up may it answer otherwise.
+pub fn more_is_enough_to_unify()
+    ensures { UnifierAgain }
 {}

@@ -33,7 +33,7 @@ module _ (U V : View) (x : Tells V U) (c d : Calls) (a : Agree c d) where
   kept_level : (C : Context) (A : Term) (u : ℕ) → Kept (level_of c C A u) (level_of d C A u)
   kept_level C A u = search (kept, a.whnf, a.infer) depth 16
 
-  kept_argument : (n : ℕ) (ty : Term) (u : ℕ) → Kept (argument U c n ty u) (argument V d n ty u)
+  pub kept_argument : (n : ℕ) (ty : Term) (u : ℕ) → Kept (argument U c n ty u) (argument V d n ty u)
   kept_argument n ty u = search (kept, a.whnf, kept_inductive, kept_level) depth 40
 
   kept_fields : (n : Path) (u : ℕ) → Kept (fields_seen (see U n) u) (fields_seen (see V n) u)

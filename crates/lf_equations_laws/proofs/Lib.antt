@@ -1,1 +1,2 @@
-mod Extended
+pub mod Extended
+mod Shape

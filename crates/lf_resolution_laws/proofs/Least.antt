@@ -84,13 +84,14 @@ use Rattle.lf_resolution.specs.Walk.{
   walk_body,
   walk,
 }
-use Rattle.lf_resolution_laws.specs.Least.{Differs, Steady, Finds, Ends, WalkFindsLeast}
+use Rattle.lf_resolution_laws.specs.Least.{Finds, Ends, WalkFindsLeast}
+use Rattle.lf_resolution_laws.proofs.Steady.{Differs, Steady, steady}
 use Rattle.lf_resolution_laws.proofs.Ends.{ends_then, ends_map, ends_choose, ends_instantiated, ends_class, ends_candidate, ends_pis, determined, ends_goals}
 
 none_less : (ts : Trees) → AllLess ts no_tree → ⊥
 none_less ts l = elim l [ ]
 
-module _ (V : View) (steady : Steady V) (S : Scope) (C : Context) where
+module _ (V : View) (same_always : Steady V) (S : Scope) (C : Context) where
   -- ---- The goals that a candidate leaves
 
   record LeastTrees (d : ℕ) (gs ts : List Term) : Type 0 where
@@ -190,7 +191,7 @@ module _ (V : View) (steady : Steady V) (S : Scope) (C : Context) where
     left goal s e h cs k Ts t b =
         let a : Attempt = attempt C e in
         let p : Parts goal e Ts = parts_of goal s e h Ts t b in
-        subst (λ q. Left e q Ts) (steady.changes C a.rest goal a.changes p.after cs p.fits.unifies k)
+        subst (λ q. Left e q Ts) (same_always.changes C a.rest goal a.changes p.after cs p.fits.unifies k)
         (record { settled = p.fits.settled; determined = p.fits.determined; terms = p.terms; are = p.are })
 
     module _ (goal : Term) (s : Source) (e : Candidate) (h : candidate V S C s ≡ Some e) (cs : Changes)
@@ -259,7 +260,7 @@ module _ (V : View) (steady : Steady V) (S : Scope) (C : Context) where
       ends_verdict s e h None u k = λ Ts t b.
           let a : Attempt = attempt C e in
           let p : Parts goal e Ts = parts_of goal s e h Ts t b in
-          steady.verdict C a.rest goal a.changes p.after p.fits.unifies k
+          same_always.verdict C a.rest goal a.changes p.after p.fits.unifies k
       ends_verdict s e h (Some cs) u k = ends_settled goal s e h cs k u
 
       ends_by_candidate : (s : Source) (e : Candidate) → candidate V S C s ≡ Some e → (u : ℕ)
@@ -359,7 +360,8 @@ module _ (V : View) (steady : Steady V) (S : Scope) (C : Context) where
       no_tree_from k (tree i ts) t (by_source hf hc hs hb) = k i _ ts t hs hb
 
       no_class_tree : (W : Term) → HasForm V C goal W → candidates.has_class V S W ≡ false → HasNone V S C (suc d) goal
-      no_class_tree W f c (tree i ts) t (by_source hf hc hs hb) = no_both (subst (λ q. candidates.has_class V S q ≡ true) (steady.form C goal _ W hf f) hc) c
+      no_class_tree W f c (tree i ts) t (by_source hf hc hs hb) =
+          no_both (subst (λ q. candidates.has_class V S q ≡ true) (same_always.form C goal _ W hf f) hc) c
         where
           no_both : {b : Bool} → b ≡ true → b ≡ false → ⊥
           no_both x y = absurd (cc)
@@ -397,4 +399,4 @@ module _ (V : View) (steady : Steady V) (S : Scope) (C : Context) where
   ends_walk (suc depth) (suc d) goal u = ends_body d (walk V S depth d C) (λ g v. ends_walk depth d g v) depth goal u
 
 pub finds_least : WalkFindsLeast
-finds_least V steady S depth C goal u = ends_walk V steady S C depth greatest_tree goal u
+finds_least V S depth C goal u = ends_walk V (steady V) S C depth greatest_tree goal u

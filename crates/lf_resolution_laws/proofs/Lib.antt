@@ -1,3 +1,5 @@
-mod Extended
+pub mod Extended
 mod Ends
+mod Steady
 mod Least
+mod Waiting

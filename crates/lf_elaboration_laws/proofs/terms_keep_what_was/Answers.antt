@@ -1,4 +1,4 @@
-use Rattle.lf_elaboration_laws.proofs.KeepingItems.{terms_keep}
+use Rattle.lf_elaboration_laws.proofs.KeepingLaws.{terms_keep}
 use Rattle.lf_elaboration_laws.proofs.terms_keep_what_was.Goals as goal
 
 pub returns : goal.returns
