@@ -1,0 +1,10 @@
+mod Parts
+mod Names
+mod Headers
+mod Values
+mod Helpers
+mod Inductives
+mod Structures
+mod Equations
+mod Realized
+mod Queries

@@ -1,0 +1,36 @@
+use Rattle.std.proofs.Common.{refl}
+use Rattle.std.specs.Char.{encode_utf8}
+use Rattle.std.specs.Str.{chars}
+use Rattle.std.specs.Fmt.{digits}
+use Rattle.lf_core.specs.Suffix.{spelling, suffix_of, equation_of}
+use Rattle.lf_print.specs.Mark.{mark_text}
+use Rattle.lf_checker.specs.LevelTest.{is_same, is_at_most}
+use Rattle.lf_checker.specs.Whnf.{turn_limit, whnf_body}
+use Rattle.lf_checker.specs.Infer.{infer_body}
+use Rattle.lf_checker.specs.Equal.{equal_body}
+use Rattle.lf_checker.specs.Normalize.{normalize_body}
+use Rattle.lf_elaboration.specs.Metavariables.{level_at, term_at, chain_limit}
+use Rattle.lf_elaboration.specs.Unifier.{unify_body}
+use Rattle.lf_elaboration.specs.Terms.{elaborate_body}
+use Rattle.lf_elaboration.specs.Proof.{prove_body}
+use Rattle.lf_document_answers.specs.Names.{NameAnswers}
+
+pub names : NameAnswers
+unfolding encode_utf8 chars digits spelling suffix_of equation_of mark_text is_same is_at_most turn_limit whnf_body
+    infer_body equal_body normalize_body level_at term_at chain_limit unify_body elaborate_body prove_body
+names = record {
+  empty_report = refl;
+  duplicate_report = refl;
+  early_axiom_report = refl;
+  reserved_report = refl;
+  levels_report = refl;
+  level_twice_report = refl;
+  in_namespace_report = refl;
+  mismatched_report = refl;
+  bad_report = refl;
+  reserved_first_report = refl;
+  other_kind_report = refl;
+  repeated_first_report = refl;
+  levels_of_inductive_report = refl;
+  levels_of_structure_report = refl;
+}

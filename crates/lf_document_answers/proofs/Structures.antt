@@ -1,0 +1,32 @@
+use Rattle.std.proofs.Common.{refl}
+use Rattle.std.specs.Char.{encode_utf8}
+use Rattle.std.specs.Str.{chars}
+use Rattle.std.specs.Fmt.{digits}
+use Rattle.lf_core.specs.Suffix.{spelling, suffix_of, equation_of}
+use Rattle.lf_print.specs.Mark.{mark_text}
+use Rattle.lf_checker.specs.LevelTest.{is_same, is_at_most}
+use Rattle.lf_checker.specs.Whnf.{turn_limit, whnf_body}
+use Rattle.lf_checker.specs.Infer.{infer_body}
+use Rattle.lf_checker.specs.Equal.{equal_body}
+use Rattle.lf_checker.specs.Normalize.{normalize_body}
+use Rattle.lf_elaboration.specs.Metavariables.{level_at, term_at, chain_limit}
+use Rattle.lf_elaboration.specs.Unifier.{unify_body}
+use Rattle.lf_elaboration.specs.Terms.{elaborate_body}
+use Rattle.lf_elaboration.specs.Proof.{prove_body}
+use Rattle.lf_document_answers.specs.Structures.{StructureAnswers}
+
+pub structures : StructureAnswers
+unfolding encode_utf8 chars digits spelling suffix_of equation_of mark_text is_same is_at_most turn_limit whnf_body
+    infer_body equal_body normalize_body level_at term_at chain_limit unify_body elaborate_body prove_body
+structures = record {
+  structure_of_two_report = refl;
+  later_field_report = refl;
+  no_structure_report = refl;
+  field_twice_report = refl;
+  field_mk_report = refl;
+  class_and_instance_report = refl;
+  no_instance_report = refl;
+  field_there_report = refl;
+  field_rec_report = refl;
+  no_structure_first_report = refl;
+}

@@ -1,0 +1,12 @@
+pub mod Written
+pub mod Base
+pub mod Parts
+pub mod Names
+pub mod Headers
+pub mod Values
+pub mod Helpers
+pub mod Inductives
+pub mod Structures
+pub mod Equations
+pub mod Realized
+pub mod Queries

@@ -1,0 +1,11 @@
+mod Kept
+mod Naming
+mod Pushed
+mod Parts
+mod Wholes
+mod Queries
+mod Inductives
+mod Equations
+mod Heads
+mod Values
+mod Reals
