@@ -1,0 +1,4 @@
+pub mod Absent
+pub mod Changing
+pub mod Heads
+pub mod Tables
