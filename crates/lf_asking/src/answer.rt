@@ -9,7 +9,7 @@ use lf_notation::{Unread, name, names, term, terms};
 use std::alloc::Global;
 
 /// What a call is to answer.
-#[derive(Clone, Copy, Debug)]
+#[derive(Clone, Copy)]
 pub enum Wanted<'a> {
     /// This value, whatever units are left.
     Gives(&'a str),

@@ -1,13 +1,12 @@
-//! Calls of the checker, as rows of a table.
+//! Calls of the checker.
 use crate::answer::{Left, Wanted, term_as_wanted, truth_as_wanted};
-use lf_base::{Budget, NeverStop, Stop};
+use lf_base::Stop;
 use lf_check::{CheckCx, equal, infer, infer_unchecked, nf, whnf};
-use lf_env::View;
 use lf_notation::{Unread, term, terms};
 use std::alloc::Global;
 
 /// A call of the checker.
-#[derive(Clone, Copy, Debug)]
+#[derive(Clone, Copy)]
 pub enum Call {
     Whnf,
     /// Of two terms.
@@ -18,16 +17,6 @@ pub enum Call {
     Nf,
 }
 
-/// A call, the types of the free variables, what the call is of, what it may spend, and what it is to answer.
-#[derive(Clone, Copy, Debug)]
-pub struct Row<'a> {
-    pub call: Call,
-    pub context: &'a str,
-    pub of: &'a str,
-    pub budget: Budget,
-    pub wanted: Wanted<'a>,
-}
-
 /// What the call left.
 pub fn left<'a, P: Stop>(cx: &'a CheckCx<'_, P>) -> Left<'a> {
     Left {
@@ -36,97 +25,84 @@ pub fn left<'a, P: Stop>(cx: &'a CheckCx<'_, P>) -> Left<'a> {
     }
 }
 
-fn whnf_row<P: Stop>(
+fn whnf_as_wanted<P: Stop>(
     alloc: Global,
     cx: &mut CheckCx<'_, P>,
-    row: &Row<'_>,
+    of: &str,
+    wanted: &Wanted<'_>,
 ) -> Result<bool, Unread> {
-    let of = term(alloc, row.of)?;
+    let of = term(alloc, of)?;
     let answer = whnf(alloc, cx, &of);
     drop(of);
-    term_as_wanted(alloc, &answer, left(cx), &row.wanted)
+    term_as_wanted(alloc, &answer, left(cx), wanted)
 }
 
-fn nf_row<P: Stop>(alloc: Global, cx: &mut CheckCx<'_, P>, row: &Row<'_>) -> Result<bool, Unread> {
-    let of = term(alloc, row.of)?;
+fn nf_as_wanted<P: Stop>(
+    alloc: Global,
+    cx: &mut CheckCx<'_, P>,
+    of: &str,
+    wanted: &Wanted<'_>,
+) -> Result<bool, Unread> {
+    let of = term(alloc, of)?;
     let answer = nf(alloc, cx, &of);
     drop(of);
-    term_as_wanted(alloc, &answer, left(cx), &row.wanted)
+    term_as_wanted(alloc, &answer, left(cx), wanted)
 }
 
-fn infer_row<P: Stop>(
+fn infer_as_wanted<P: Stop>(
     alloc: Global,
     cx: &mut CheckCx<'_, P>,
-    row: &Row<'_>,
+    of: &str,
+    wanted: &Wanted<'_>,
 ) -> Result<bool, Unread> {
-    let of = term(alloc, row.of)?;
+    let of = term(alloc, of)?;
     let answer = infer(alloc, cx, &of);
     drop(of);
-    term_as_wanted(alloc, &answer, left(cx), &row.wanted)
+    term_as_wanted(alloc, &answer, left(cx), wanted)
 }
 
-fn unchecked_row<P: Stop>(
+fn unchecked_as_wanted<P: Stop>(
     alloc: Global,
     cx: &mut CheckCx<'_, P>,
-    row: &Row<'_>,
+    of: &str,
+    wanted: &Wanted<'_>,
 ) -> Result<bool, Unread> {
-    let mut of = terms(alloc, row.of)?;
+    let mut of = terms(alloc, of)?;
     let inner = of.pop().ok_or(Unread::Malformed)?;
     let answer = infer_unchecked(alloc, cx, of.as_slice(), &inner);
     drop(inner);
     drop(of);
-    term_as_wanted(alloc, &answer, left(cx), &row.wanted)
+    term_as_wanted(alloc, &answer, left(cx), wanted)
 }
 
-fn equal_row<P: Stop>(
+fn equal_as_wanted<P: Stop>(
     alloc: Global,
     cx: &mut CheckCx<'_, P>,
-    row: &Row<'_>,
+    of: &str,
+    wanted: &Wanted<'_>,
 ) -> Result<bool, Unread> {
-    let of = terms(alloc, row.of)?;
+    let of = terms(alloc, of)?;
     let answer = match of.as_slice() {
         [a, b] => equal(alloc, cx, a, b),
         _ => return Err(Unread::Malformed),
     };
     drop(of);
-    truth_as_wanted(alloc, &answer, left(cx), &row.wanted)
+    truth_as_wanted(alloc, &answer, left(cx), wanted)
 }
 
-/// Whether the call answers as wanted, over this view and with this stop.
-pub fn answers_with_stop<P: Stop>(
+/// Whether the call answers as wanted, in this context.
+pub fn calls<P: Stop>(
     alloc: Global,
-    view: &View,
-    stop: &mut P,
-    row: &Row<'_>,
+    cx: &mut CheckCx<'_, P>,
+    call: Call,
+    of: &str,
+    wanted: &Wanted<'_>,
 ) -> Result<bool, Unread> {
-    let mut cx = CheckCx {
-        view,
-        locals: terms(alloc, row.context)?,
-        opened: Vec::new(alloc),
-        budget: row.budget,
-        stop,
-    };
-    match row.call {
-        Call::Whnf => whnf_row(alloc, &mut cx, row),
-        Call::Equal => equal_row(alloc, &mut cx, row),
-        Call::Infer => infer_row(alloc, &mut cx, row),
-        Call::Unchecked => unchecked_row(alloc, &mut cx, row),
-        Call::Nf => nf_row(alloc, &mut cx, row),
+    match call {
+        Call::Whnf => whnf_as_wanted(alloc, cx, of, wanted),
+        Call::Equal => equal_as_wanted(alloc, cx, of, wanted),
+        Call::Infer => infer_as_wanted(alloc, cx, of, wanted),
+        Call::Unchecked => unchecked_as_wanted(alloc, cx, of, wanted),
+        Call::Nf => nf_as_wanted(alloc, cx, of, wanted),
     }
-}
-
-/// A row with 512 nested calls allowed: the call, the types of the free variables, what it is of, the units, the answer.
-pub type Asked = (Call, &'static str, &'static str, u64, Wanted<'static>);
-
-/// Whether the row is answered as wanted, over this view.
-pub fn holds(alloc: Global, view: &View, asked: &Asked) -> Result<bool, Unread> {
-    let (call, context, of, units, wanted) = *asked;
-    let row = Row {
-        call,
-        context,
-        of,
-        budget: Budget { units, depth: 512 },
-        wanted,
-    };
-    answers_with_stop(alloc, view, &mut NeverStop, &row)
 }

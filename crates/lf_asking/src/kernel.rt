@@ -1,20 +1,19 @@
-//! Calls of the kernel, as rows of a table.
+//! Calls of the kernel.
 ghost use Rattle.std.specs.Prelude.{◌≡◌, ◌↔◌, map, IsTrue};
 
 use crate::answer::{Wanted, ends_as_wanted, wanted_value};
 use crate::call::left;
 use crate::views::constant;
-use lf_base::{Budget, NeverStop, Stop};
+use lf_base::Stop;
 use lf_check::CheckCx;
 use lf_checker::TypeFault;
 use lf_core::{Ans, ConstInfo, ConstKind, Expr, Level, Name};
-use lf_env::View;
 use lf_kernel::{add_decl, add_header, add_inductive};
 use lf_notation::{Declaration, Unread, declared, name, names, term};
 use std::alloc::Global;
 
 /// What is added to a view.
-#[derive(Clone, Copy, Debug)]
+#[derive(Clone, Copy)]
 pub enum Addition<'a> {
     /// A name and a type; the answer is the type's sort.
     Header(&'a str, &'a str),
@@ -113,7 +112,7 @@ fn inductive_as_wanted<P: Stop>(
 }
 
 /// Whether the call answers as wanted, in this context.
-pub fn adds_with_stop<P: Stop>(
+pub fn adds<P: Stop>(
     alloc: Global,
     cx: &mut CheckCx<'_, P>,
     addition: &Addition<'_>,
@@ -127,20 +126,4 @@ pub fn adds_with_stop<P: Stop>(
         }
         Addition::Inductive(written) => inductive_as_wanted(alloc, cx, written, wanted),
     }
-}
-
-/// What is added, the units and the nesting that are allowed, and the answer.
-pub type Added = (Addition<'static>, u64, u32, Wanted<'static>);
-
-/// Whether the row is answered as wanted, over this view.
-pub fn adds(alloc: Global, view: &View, added: &Added) -> Result<bool, Unread> {
-    let (addition, units, depth, wanted) = *added;
-    let mut cx = CheckCx {
-        view,
-        locals: Vec::new(alloc),
-        opened: Vec::new(alloc),
-        budget: Budget { units, depth },
-        stop: &mut NeverStop,
-    };
-    adds_with_stop(alloc, &mut cx, &addition, &wanted)
 }

@@ -1,12 +1,14 @@
-//! Calls of the checker and the kernel as rows of tables, over views that are written down, and what they are to answer.
+//! Calls of the checker and the kernel as rows, over views that are written down, and what they are to answer.
 #![tactic(auto)]
 
 mod answer;
 mod call;
 mod kernel;
+mod row;
 mod views;
 
 pub use answer::Wanted;
-pub use call::{Asked, Call, Row, answers_with_stop, holds};
-pub use kernel::{Added, Addition, adds, adds_with_stop};
-pub use views::{Known, add_known, constant, view_of};
+pub use call::Call;
+pub use kernel::Addition;
+pub use row::{Asking, Question, Row, holds};
+pub use views::{Known, add_known};

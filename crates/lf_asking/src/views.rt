@@ -2,13 +2,13 @@
 use lf_base::{Budget, NeverStop};
 use lf_check::CheckCx;
 use lf_core::{Ans, ConstInfo, ConstKind, Detail, Expr, IndDecl, Name};
-use lf_env::{BASE, View};
+use lf_env::View;
 use lf_kernel::add_inductive;
 use lf_notation::{Declaration, Unread, declared, name, names, term};
 use std::alloc::Global;
 
 /// A constant, or an inductive type with its constructors and its recursor.
-#[derive(Clone, Copy, Debug)]
+#[derive(Clone, Copy)]
 pub enum Known<'a> {
     Inductive(Declaration<'a>),
     /// With the names of its levels between blanks.
@@ -142,13 +142,4 @@ pub fn add_known(
             add_definition(alloc, view, info, position)
         }
     }
-}
-
-/// The view of these constants, as a base.
-pub fn view_of(alloc: Global, all: &[Known<'_>]) -> Result<View, Unread> {
-    let mut view = View::new(alloc, Vec::new(alloc))?;
-    for known in all {
-        add_known(alloc, &mut view, known, BASE)?;
-    }
-    Ok(view)
 }

@@ -19,3 +19,5 @@ pub use compare::equal as equal_within;
 pub use cx::{Cx, close, open};
 pub use judge::{infer as infer_within, sort_of};
 pub use mode::Mode;
+pub use normal::normalize as normalize_within;
+pub use reduce::whnf as whnf_within;

@@ -15,6 +15,3 @@ pub use lf_base::NoMemory;
 pub use lf_name::{Binder, BinderKind, Copied, Name, Word, copy_all, same_parts};
 pub use literal::{LitOut, Operation};
 pub use suffix::Suffix;
-
-#[cfg(test)]
-mod tests;

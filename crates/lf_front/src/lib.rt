@@ -13,8 +13,3 @@ mod typing;
 
 pub use serial::run_serial;
 pub use status::Status;
-
-#[cfg(test)]
-mod tests;
-#[cfg(test)]
-mod typing_tests;

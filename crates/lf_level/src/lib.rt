@@ -10,6 +10,3 @@ mod tried;
 pub use fault::LevelFault;
 pub use order::{leq, same, subst};
 pub use parameters::has_no_metavariable;
-
-#[cfg(test)]
-mod tests;

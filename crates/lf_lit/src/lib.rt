@@ -75,6 +75,3 @@ pub fn nat_op(op: &str, a: u128, b: u128) -> Option<LitOut>
 {
     apply(by_last_part(op.strip_prefix("Nat.")?)?, a, b)
 }
-
-#[cfg(test)]
-mod tests;

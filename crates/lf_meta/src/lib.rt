@@ -14,6 +14,3 @@ mod variables;
 
 pub use fault::MetaFault;
 pub use metas::Metas;
-
-#[cfg(test)]
-mod tests;

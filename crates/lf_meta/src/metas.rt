@@ -182,9 +182,9 @@ impl Metas {
         has_assigned(self, term)
     }
 
-    // A term with its assigned metavariables put in.
+    /// The term with its assigned metavariables put in. One in which none is assigned is handed back.
     #[tactic(auto, using(crate::proofs::Heads::put_in_stays), unfolding(lf_elaboration::specs::Metavariables::chain_limit))]
-    fn put_in(&self, term: &Expr) -> Result<Expr, NoMemory>
+    pub fn put_in(&self, term: &Expr) -> Result<Expr, NoMemory>
         ensures { IfOk result (λ t. t ≡ spec.put_in self.now term.now) }
     {
         if !self.has_assigned(term) {
@@ -196,9 +196,9 @@ impl Metas {
         }
     }
 
-    // A level with its assigned metavariables put in.
+    /// The level with its assigned metavariables put in.
     #[tactic(auto, unfolding(lf_elaboration::specs::Metavariables::chain_limit))]
-    fn put_in_level(&self, level: &Level) -> Result<Level, NoMemory>
+    pub fn put_in_level(&self, level: &Level) -> Result<Level, NoMemory>
         ensures { IfOk result (λ l. l ≡ spec.put_level self.now level.now) }
     {
         match put_level(self, WHOLE, LOOSE, level) {

@@ -23,6 +23,3 @@ pub use naming::NamingError;
 pub use proof::{ProofError, ProofItem};
 pub use syntax::SyntaxError;
 pub use tree::Tree;
-
-#[cfg(test)]
-mod tests;

@@ -10,6 +10,3 @@ pub use binder::{Binder, BinderKind};
 pub use copied::{Copied, copy_all};
 pub use name::{Name, same_parts};
 pub use word::Word;
-
-#[cfg(test)]
-mod tests;

@@ -5,26 +5,31 @@ use lf_core::{CtorInfo, IndDecl};
 use sqlite_items::Items;
 use std::alloc::Global;
 
-/// An inductive declaration: the names of its levels between blanks, its type, and its constructors with theirs.
+/// An inductive declaration: the names of its levels between blanks, its type, and its constructors between semicolons,
+/// each with its type behind a colon.
 #[derive(Clone, Copy, Debug)]
 pub struct Declaration<'a> {
     pub name: &'a str,
     pub levels: &'a str,
     pub params: u32,
     pub ty: &'a str,
-    pub ctors: &'a [(&'a str, &'a str)],
+    pub ctors: &'a str,
 }
 
-fn constructor(alloc: Global, text: &str, ty: &str) -> Result<CtorInfo, Unread> {
-    let name = name(alloc, text)?;
+fn constructor(alloc: Global, text: &str) -> Result<CtorInfo, Unread> {
+    let (text, ty) = text.split_once(':').ok_or(Unread::Malformed)?;
+    let name = name(alloc, text.trim())?;
     let ty = term(alloc, ty)?;
     Ok(CtorInfo { name, ty })
 }
 
-fn constructors(alloc: Global, rows: &[(&str, &str)]) -> Result<Items<CtorInfo>, Unread> {
+fn constructors(alloc: Global, text: &str) -> Result<Items<CtorInfo>, Unread> {
     let mut all = Items::new(alloc);
-    for (text, ty) in rows {
-        all.push(constructor(alloc, text, ty)?)?;
+    if text.is_empty() {
+        return Ok(all);
+    }
+    for part in text.split(';') {
+        all.push(constructor(alloc, part)?)?;
     }
     Ok(all)
 }

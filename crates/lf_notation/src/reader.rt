@@ -45,8 +45,8 @@ fn between<'a>(text: &'a str, left: char, right: char) -> Option<&'a str> {
         .map(|inner| inner.trim_end_matches(right))
 }
 
-// `x` in parentheses, `{x}` in braces or `[x]` in brackets.
-fn binder(alloc: Global, text: &str) -> Result<Binder, Unread> {
+/// The binder that is written so: `x` in parentheses, `{x}` in braces or `[x]` in brackets.
+pub fn binder(alloc: Global, text: &str) -> Result<Binder, Unread> {
     if let Some(inner) = between(text, '{', '}') {
         let name = name(alloc, inner)?;
         return Ok(Binder {
@@ -174,6 +174,27 @@ impl Reader {
         Ok(all)
     }
 
+    // A function applied to a term and an argument, and to what comes of that and the same argument, so many times.
+    fn chained(&mut self, count: &str) -> Result<Expr, Unread> {
+        let (f, mut all) = self.two_terms()?;
+        let argument = self.term()?;
+        for _ in 0..number(count)? {
+            let first = Expr::app(self.alloc, f.copy(self.alloc)?, all)?;
+            all = Expr::app(self.alloc, first, argument.copy(self.alloc)?)?;
+        }
+        Ok(all)
+    }
+
+    // A function applied to a term, and again to what comes of that, so many times.
+    fn repeated(&mut self, count: &str) -> Result<Expr, Unread> {
+        let (f, mut all) = self.two_terms()?;
+        for _ in 0..number(count)? {
+            let same = f.copy(self.alloc)?;
+            all = Expr::app(self.alloc, same, all)?;
+        }
+        Ok(all)
+    }
+
     fn some_levels(&mut self, count: u32) -> Result<Items<Level>, Unread> {
         let mut all = Items::new(self.alloc);
         for _ in 0..count {
@@ -224,6 +245,8 @@ impl Reader {
             "let" => self.let_in(rest),
             "proj" => self.projection(rest),
             "twice" => self.doubled(rest),
+            "chain" => self.chained(rest),
+            "times" => self.repeated(rest),
             _ => Err(Unread::Malformed),
         }
     }
@@ -259,14 +282,8 @@ impl Reader {
     }
 }
 
-/// These terms, one behind the other.
-///
-/// `#0` is a bound variable by its index, `$0` a free one by its place, `?0` a metavariable, digits a literal; `Prop`,
-/// `Type` and `Sort` before a level are sorts. `Nat` is a constant, `Eq/1` one before its level. `@ f a` and `@2 f a b`
-/// are applications, `fun:x A b` and `pi:x A B` what they say, with `{x}` for a binder in braces and `[x]` for one in
-/// brackets; `let:x A v b`; `proj:P:0 t`; `twice:3 t` is t applied to itself, three times over. Levels stand behind a
-/// quote: `'1`, `'u0` a parameter, `'m0` a metavariable, `'succ`, `'max`, `'imax`.
-pub fn terms(alloc: Global, text: &str) -> Result<Vec<Expr>, Unread> {
+// All words of a text, from the right.
+fn read(alloc: Global, text: &str) -> Result<Reader, Unread> {
     let mut reader = Reader {
         alloc,
         terms: Vec::new(alloc),
@@ -275,6 +292,36 @@ pub fn terms(alloc: Global, text: &str) -> Result<Vec<Expr>, Unread> {
     for word in text.rsplit([' ', '(', ')']) {
         reader.read_word(word)?;
     }
+    Ok(reader)
+}
+
+/// These levels, one behind the other. A number behind a quote is a level, as are `'u0` for a parameter, `'m0` for a
+/// metavariable, `'succ` before a level, and `'max` and `'imax` before two.
+pub fn levels(alloc: Global, text: &str) -> Result<Vec<Level>, Unread> {
+    let reader = read(alloc, text)?;
+    let mut all = reader.levels;
+    all.reverse();
+    Ok(all)
+}
+
+/// This level.
+pub fn level(alloc: Global, text: &str) -> Result<Level, Unread> {
+    let mut all = levels(alloc, text)?;
+    match all.pop() {
+        Some(level) if all.is_empty() => Ok(level),
+        _ => Err(Unread::Malformed),
+    }
+}
+
+/// These terms, one behind the other.
+///
+/// `#0` is a bound variable by its index, `$0` a free one by its place, `?0` a metavariable, digits a literal; `Prop`,
+/// `Type` and `Sort` before a level are sorts. `Nat` is a constant, `Eq/1` one before its level. `@ f a` and `@2 f a b`
+/// are applications, `fun:x A b` and `pi:x A B` what they say, with `{x}` for a binder in braces and `[x]` for one in
+/// brackets; `let:x A v b`; `proj:P:0 t`; `twice:3 t` is t applied to itself, three times over; `times:3 f t` is
+/// f applied to t, three times over, and `chain:3 f a b` is `f (f (f a b) b) b`. Levels are those of `levels`.
+pub fn terms(alloc: Global, text: &str) -> Result<Vec<Expr>, Unread> {
+    let reader = read(alloc, text)?;
     let mut all = reader.terms;
     all.reverse();
     Ok(all)

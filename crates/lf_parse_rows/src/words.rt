@@ -17,7 +17,7 @@ fn fault_word(fault: SyntaxFault) -> &'static str {
 }
 
 /// The word for a command; that of a bad one is its fault's.
-fn word(command: &Command) -> &'static str {
+pub fn word(command: &Command) -> &'static str {
     match command {
         Command::Axiom(_) => "axiom",
         Command::Def { .. } => "def",
@@ -64,17 +64,21 @@ fn place(command: &Command) -> usize {
     }
 }
 
+/// Puts a part at the end of a line, behind a space.
+pub fn put(line: &mut String, part: &str) -> Result<(), NoMemory> {
+    if !line.is_empty() {
+        line.push(' ')?;
+    }
+    line.push_str(part)?;
+    Ok(())
+}
+
 /// Each command by its word and its place in bytes, which of a bad one are its fault's.
 pub fn shown(alloc: Global, commands: &[Command]) -> Result<String, NoMemory> {
     let mut line = String::new(alloc);
     for command in commands {
-        if !line.is_empty() {
-            line.push(' ')?;
-        }
-        line.push_str(word(command))?;
-        line.push(' ')?;
-        let number = format!(in alloc; "{}", place(command))?;
-        line.push_str(number.as_str())?;
+        put(&mut line, word(command))?;
+        put(&mut line, format!(in alloc; "{}", place(command))?.as_str())?;
     }
     Ok(line)
 }

@@ -11,6 +11,3 @@ pub use mark::Mark;
 pub use operator::{infix_mark, negation, operation, relation};
 pub use page::LIMIT;
 pub use printing::print;
-
-#[cfg(test)]
-mod tests;

@@ -1,4 +1,5 @@
 //! Scopes of commands, and names as short texts.
+use crate::fault::Fault;
 use lf_base::NoMemory;
 use lf_elaboration::Variable;
 use lf_name::Name;
@@ -7,18 +8,14 @@ use lf_syntax::{Command, Ident};
 use std::alloc::Global;
 
 /// The name of these parts, which stand between full stops.
-pub fn read_name(alloc: Global, text: &str) -> Result<Option<Name>, NoMemory> {
+pub fn read_name(alloc: Global, text: &str) -> Result<Name, Fault> {
     let mut parts = text.split('.');
-    match parts.next() {
-        None => Ok(None),
-        Some(first) => {
-            let mut name = Name::one(alloc, first)?;
-            for part in parts {
-                name = name.child(alloc, part)?;
-            }
-            Ok(Some(name))
-        }
+    let first = parts.next().ok_or(Fault::Malformed)?;
+    let mut name = Name::one(alloc, first)?;
+    for part in parts {
+        name = name.child(alloc, part)?;
     }
+    Ok(name)
 }
 
 /// The scope after the commands, and how many of them are a mismatched `end`.

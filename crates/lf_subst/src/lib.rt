@@ -12,6 +12,3 @@ pub use fault::SubstFault;
 pub use instance::{DEEPEST, instantiate};
 pub use levels::level_inst;
 pub use unlimited::{at_levels, close_body, open_body};
-
-#[cfg(test)]
-mod tests;

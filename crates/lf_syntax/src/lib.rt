@@ -7,8 +7,6 @@ mod level;
 mod pattern;
 mod shared;
 mod term;
-#[cfg(test)]
-mod tests;
 
 pub use command::{Command, CtorDecl, Decl, FieldDecl, Helper};
 pub use leaf::{Ident, Num, SyntaxFault};

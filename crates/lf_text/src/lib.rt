@@ -5,8 +5,6 @@ mod frame;
 mod nesting;
 mod operator;
 mod role;
-#[cfg(test)]
-mod tests;
 mod text;
 mod token;
 mod word;

@@ -11,8 +11,6 @@ mod place;
 mod scan;
 mod shape;
 mod stack;
-#[cfg(test)]
-mod tests;
 mod words;
 
 pub use law::tokens_cover_the_text;
