@@ -1,0 +1,9 @@
+pub mod Runs
+pub mod Floor
+pub mod Costs
+pub mod Numbers
+pub mod Forms
+pub mod Nesting
+pub mod Patterns
+pub mod Towers
+pub mod Loops
