@@ -26,4 +26,6 @@ inductives = record {
   two_of_a_name_report = refl;
   warned_once_report = refl;
   level_by_constructor_report = refl;
+  open_parameter_report = refl;
+  bad_type_last_report = refl;
 }

@@ -26,4 +26,5 @@ queries = record {
   reduced_variable_report = refl;
   level_taken_report = refl;
   axioms_of_nothing_report = refl;
+  block_on_variable_report = refl;
 }

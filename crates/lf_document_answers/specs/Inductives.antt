@@ -82,6 +82,18 @@ level_by_constructor =
           (name 96 "W") (name 98 "h" ∷ []));
     } ∷ []) ∷ []
 
+-- inductive T (n : _) : Type where
+--   | mk : T 1
+abbrev pub open_parameter : List Command
+open_parameter =
+    Inductive (decl 0 (ident 10 "T") (binder 12 13 "n" (tree.hole 17) ∷ []) (Some (tree.type_u 22 None)))
+    (record { at = 35; name = ident 37 "mk"; binders = []; ty = Some (applied (name 42 "T") (number 44 1 ∷ [])) } ∷ []) ∷ []
+
+-- inductive T : Nat where | mk : x
+abbrev pub bad_type_last : List Command
+bad_type_last =
+    Inductive (decl 0 (ident 10 "T") [] (Some (name 14 "Nat"))) (record { at = 24; name = ident 26 "mk"; binders = []; ty = Some (name 31 "x") } ∷ []) ∷ []
+
 pub record InductiveAnswers : Type 0 where
   -- an inductive type with a level name and a parameter
   pub polymorphic_report : reports ground ("universe u" ∷ "inductive List (α : Type u) : Type u where" ∷ "  | nil : List α"
@@ -130,4 +142,14 @@ pub record InductiveAnswers : Type 0 where
       ∷ "constructor W.mk : ∀ {h : f}, P h → W h"
       ∷ "recursor W.rec : ∀ {h : f}, ∀ {motive : W h → Sort u}, (∀ (p : P h), motive (W.mk h p)) → ∀ (t : W h), motive t"
       ∷ "0 errors, 0 warnings"
+      ∷ [])
+  -- parameters close with the type, so a constructor determines none
+  pub open_parameter_report : reports ground ("inductive T (n : _) : Type where" ∷ "  | mk : T 1" ∷ []) open_parameter
+      ("1:17: error: cannot determine a placeholder"
+      ∷ "1 errors, 0 warnings"
+      ∷ [])
+  -- what the kernel says of the type comes behind the errors of constructors
+  pub bad_type_last_report : reports ground ("inductive T : Nat where | mk : x" ∷ []) bad_type_last
+      ("1:31: error: unknown identifier x"
+      ∷ "1 errors, 0 warnings"
       ∷ [])

@@ -3,7 +3,7 @@ use Rattle.std.specs.Prelude.{Some, List, [], ◌∷◌}
 use Rattle.lf_syntax.specs.declared.command.Command.{Command}
 use Rattle.lf_syntax.specs.declared.command.Command.TheVariants.{Axiom, Def, Universe, Variable, Check, Reduce, PrintAxioms}
 use Rattle.lf_syntax.specs.Tree as tree
-use Rattle.lf_document_answers.specs.Written.{ident, name, name_of_two, number, applied, equals, binder, decl, type_u}
+use Rattle.lf_document_answers.specs.Written.{ident, name, name_of_two, number, applied, equals, by_items, binder, decl, type_u}
 use Rattle.lf_document_answers.specs.Base.{ground, reports}
 
 -- variable (n : Nat)
@@ -48,6 +48,13 @@ abbrev pub axioms_of_nothing : List Command
 axioms_of_nothing =
     PrintAxioms 0 (ident 14 "x") ∷ []
 
+-- variable (n : Nat)
+-- #check (by exact n : Nat)
+abbrev pub block_on_variable : List Command
+block_on_variable =
+    Variable 0 (binder 9 10 "n" (name 14 "Nat") ∷ [])
+    ∷ Check 19 (tree.paren 26 (by_items 27 (tree.exact 30 (name 36 "n") ∷ [])) (tree.some_term (name 40 "Nat"))) ∷ []
+
 pub record QueryAnswers : Type 0 where
   -- a variable that a `#check` takes
   pub variable_taken_report : reports ground ("variable (n : Nat)" ∷ "#check Nat.succ n" ∷ []) variable_taken
@@ -85,4 +92,9 @@ pub record QueryAnswers : Type 0 where
   pub axioms_of_nothing_report : reports ground ("#print axioms x" ∷ []) axioms_of_nothing
       ("1:14: error: unknown identifier x"
       ∷ "1 errors, 0 warnings"
+      ∷ [])
+  -- variables close with their blocks run, and stand in what is printed
+  pub block_on_variable_report : reports ground ("variable (n : Nat)" ∷ "#check (by exact n : Nat)" ∷ []) block_on_variable
+      ("2:0: info: n : Nat"
+      ∷ "0 errors, 0 warnings"
       ∷ [])

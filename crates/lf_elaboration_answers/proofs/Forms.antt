@@ -45,4 +45,16 @@ form = record {
   context_untested = refl;
   blocks_first = refl;
   unknown_level = refl;
+  level_around_block = refl;
+  level_in_block = refl;
+  level_in_block_alone = refl;
+  alone_costs = refl;
+  pattern_costs = refl;
+  type_for_each = refl;
+  binders_cost = refl;
+  let_type = refl;
+  no_function_behind = refl;
+  passed_over = refl;
+  hole_left = refl;
+  levels_added = refl;
 }

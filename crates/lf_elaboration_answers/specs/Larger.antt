@@ -1,6 +1,6 @@
 -- A larger base: a type, propositions and a predicate by other names, addition, and a namespace with an addition of its own.
 use Rattle.std.specs.Prelude.{Bool, false, Option, Some, None, List, [], ◌∷◌, ◌++◌}
-use Rattle.lf_core.specs.Term.{Path, Term, bound, const, app, lam, pi, lit}
+use Rattle.lf_core.specs.Term.{Path, Term, bound, const, app, lam, pi}
 use Rattle.lf_core.specs.declared.constant.ConstInfo.{ConstInfo}
 use Rattle.lf_core.specs.declared.constant.ConstKind.TheVariants.{Def}
 use Rattle.lf_core.specs.declared.constant.Detail.TheVariants.{Plain}
@@ -11,7 +11,7 @@ use Rattle.lf_checker.specs.Checker as checking
 use Rattle.lf_checker.specs.Run as checker
 use Rattle.lf_elaboration.specs.Run.{Answer, ◌>>=◌, ◌>>◌}
 use Rattle.lf_elaboration.specs.Scope.{start, scope_after}
-use Rattle.lf_elaboration.specs.Part.{Part, Locals, State, Run, Typed, instantiated}
+use Rattle.lf_elaboration.specs.Part.{Part, Locals, State, Run, instantiated}
 use Rattle.lf_elaboration.specs.Elaboration.{elaborate, prove, close}
 use Rattle.lf_examples.specs.Words.{text, word, dotted, explicit, implicit, two, prop, type, at, ◌⟶◌}
 use Rattle.lf_examples.specs.Declarations.{nat}
@@ -25,11 +25,13 @@ definition n A v = record { name = n; kind = Def; levels = []; ty = A; value = S
 abbrev pub add : Term → Term → Term
 add m n = two (const (dotted "Nat" "add") []) m n
 
--- def T : Type := Nat; def D : Prop := ∀ {x : Nat}, x = x; def No (p : Prop) : Prop := p → C; and an axiom c.{u} : Nat
+-- def T : Type := Nat; def D : Prop := ∀ {x : Nat}, x = x; def No (p : Prop) : Prop := p → C; an axiom c.{u} : Nat;
+-- and def G : Prop := ∀ (x : Nat), g x = x
 abbrev pub W : View
 W = base_view (base ++ definition (word "T") type nat ∷ constant (dotted "Nat" "add") (nat ⟶ (nat ⟶ nat))
     ∷ definition (word "D") prop (pi (implicit "x") nat (nat_equation (bound 0) (bound 0))) ∷ constant (word "C") prop
     ∷ definition (word "No") (prop ⟶ prop) (lam (explicit "p") prop (bound 0 ⟶ at "C")) ∷ axiom_u (word "c") nat
+    ∷ definition (word "G") prop (pi (explicit "x") nat (nat_equation (app (at "g") (bound 0)) (bound 0)))
     ∷ constant (text "N" ∷ text "Nat" ∷ text "add" ∷ []) (nat ⟶ (nat ⟶ nat)) ∷ [])
 
 abbrev pub Q : Part
