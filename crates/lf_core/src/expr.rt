@@ -1,5 +1,5 @@
 //! Terms, as shared trees.
-ghost use Rattle.std.specs.Prelude.{◌≡◌, ◌↔◌, IsTrue, false, IfOk, IfSome};
+ghost use Rattle.std.specs.Prelude.{◌≡◌, ◌↔◌, ◌<◌, ◌^◌, IsTrue, false, IfOk, IfSome, IsSome};
 ghost use Rattle.lf_core.specs.Term.{bound, free, meta, sort, const, app, lam, pi, letin, lit, proj};
 ghost use Rattle.lf_core.specs.Scope.{Scoped};
 ghost use Rattle.lf_core.specs.Size as size;
@@ -97,9 +97,10 @@ pub fn same_levels(a: &[Level], b: &[Level]) -> bool
     }
 }
 
-/// The number of nodes of all the levels, where it is a u64.
+/// The number of nodes of all the levels; None exactly where it is no u64.
 pub fn levels_count(levels: &[Level]) -> Option<u64>
-    ensures { IfSome result (λ n. n ≡ size.levels_node_count levels.now) }
+    ensures fits { IsSome result ↔ size.levels_node_count levels.now < 2 ^ 64 }
+    ensures count { IfSome result (λ n. n ≡ size.levels_node_count levels.now) }
 {
     match levels {
         [] => Some(0),
