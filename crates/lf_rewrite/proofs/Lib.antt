@@ -1,1 +1,3 @@
 pub mod Standing
+pub mod Spines
+pub mod Listed

@@ -2,5 +2,7 @@
 #![tactic(auto)]
 
 mod parts;
+mod places;
 
 pub use parts::motive;
+pub use places::places_for;

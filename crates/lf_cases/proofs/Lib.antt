@@ -1,0 +1,4 @@
+pub mod Speaks
+pub mod Minors
+pub mod Putting
+pub mod Eliminations
