@@ -1,0 +1,4 @@
+pub mod Remaining
+pub mod Nodes
+pub mod Taken
+pub mod Turned
