@@ -44,11 +44,10 @@ fn listed(alloc: Global, view: &View, seen: &[Visited<'_>]) -> ReachedAxioms
     }
 }
 
-/// The axioms that the constant of this name reaches, in the order of the view's entries, of which no two have one name.
+/// The axioms that the constant of this name reaches, in the order of the view's entries.
 /// Need comes at the first constant or value, in the order of the walk, that isn't there yet. It takes no budget; `NoMemory`
 /// also after 2^64 - 1 steps. docs/language.md, Realized constants.
 pub fn reached(alloc: Global, view: &View, name: &Name) -> ReachedAxioms
-    requires distinct { IsDistinct same_entry view.now.entries }
     ensures { Answers (axioms.reached view.now name.now) result }
 {
     let mut seen = IndexSet::new(alloc);
@@ -58,7 +57,10 @@ pub fn reached(alloc: Global, view: &View, name: &Name) -> ReachedAxioms
     };
     let mut turns = u64::MAX;
     match run(alloc, view, &mut seen, &mut stack, &mut turns) {
-        Ok(()) => listed(alloc, view, seen.as_slice()),
+        Ok(()) => {
+            view.named_once();
+            listed(alloc, view, seen.as_slice())
+        }
         Err(halt) => told(halt),
     }
 }

@@ -1,7 +1,8 @@
 -- What is found in the view that the code's entries make.
 use Rattle.std.specs.Prelude.{◌≡◌, ℕ, zero, suc, Bool, true, false, not, cond, if◌then◌else◌, List, [], ◌∷◌, ◌++◌, map, filter, Option, Some, None}
 use Rattle.std.proofs.Common.{refl, sym, ◌∙◌, ap, subst}
-use Rattle.std.specs.List.{IsDistinct}
+use Rattle.std.specs.List.{IsDistinct, AllByRecursion}
+use Rattle.std.proofs.lemmas.Map.Keys.{IsDistinct-head, IsDistinct-tail, IsDistinct-cons}
 use Rattle.std.specs.Option.{option_map}
 use Rattle.lf_core.specs.Term.{Path}
 use Rattle.lf_core.specs.Same.{same_path}
@@ -51,6 +52,21 @@ settled_name joined e = at (find_entry joined e.info.name) refl
     at : (o : Option Entry) → find_entry joined e.info.name ≡ o → (settled_by e o).info.name ≡ e.info.name
     at (Some j) h = found_named joined e.info.name j h
     at None h = refl
+
+-- Names that differ still do.
+settled_same : (joined : List Entry) (d e : Entry) → same_entry (settled joined d) (settled joined e) ≡ same_entry d e
+settled_same joined d e = ap (same_path (settled joined d).info.name) (settled_name joined e) ∙ ap (λ n. same_path n e.info.name) (settled_name joined d)
+
+settled_apart : (joined : List Entry) (d : Entry) (es : List Entry) → AllByRecursion (λ e. same_entry d e ≡ false) es
+    → AllByRecursion (λ e. same_entry (settled joined d) e ≡ false) (map (settled joined) es)
+settled_apart joined d [] a = tt
+settled_apart joined d (e ∷ es) a = (settled_same joined d e ∙ a.0, settled_apart joined d es a.1)
+
+pub settled_distinct : (joined es : List Entry) → IsDistinct same_entry es → IsDistinct same_entry (map (settled joined) es)
+settled_distinct joined [] d = d
+settled_distinct joined (e ∷ es) d =
+    IsDistinct-cons same_entry (settled joined e) (map (settled joined) es) (settled_apart joined e es (IsDistinct-head same_entry e es d))
+    (settled_distinct joined es (IsDistinct-tail same_entry e es d))
 
 pub settled_position : (joined : List Entry) (e : Entry) → (settled joined e).position ≡ e.position
 settled_position joined e = at (find_entry joined e.info.name)

@@ -63,6 +63,13 @@ impl Listing {
         *self.layers.allocator()
     }
 
+    /// No two of the entries have one name. It does nothing.
+    pub fn named_once(&self)
+        ensures { IsDistinct same_entry self.now }
+    {
+        let _count = self.layers.len();
+    }
+
     /// The entry of the name with these parts.
     pub fn find(&self, words: &[Word]) -> Option<&SharedEntry>
         ensures { option_copied result ≡ find_entry self.now words.now }

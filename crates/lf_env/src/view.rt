@@ -1,4 +1,5 @@
 ghost use Rattle.std.specs.Prelude.{◌≡◌, None, IfOk, OnOk, OnErr, map, [], ◌∷◌};
+ghost use Rattle.std.specs.List.{IsDistinct};
 ghost use Rattle.std.specs.Option.{option_copied};
 ghost use Rattle.lf_checker.specs.View as view;
 ghost use Rattle.lf_checker.specs.View.{
@@ -30,6 +31,7 @@ ghost use Rattle.lf_checker.specs.View.{
 ghost use Rattle.lf_core.specs.Suffix.{suffix_of};
 ghost use Rattle.lf_env.specs.Answer.{DistinctNames, IsKnown, Shows, CanJoin, CanAnswer, HasEntryAt, told};
 ghost use Rattle.lf_env.specs.Layer.{failed_of, narrowed as narrowed_view};
+ghost use Rattle.lf_env.specs.Names.{same_entry};
 
 use crate::answer::{BodyOf, Lookup};
 use crate::entry::SharedEntry;
@@ -151,6 +153,13 @@ impl View {
         ensures { result ≡ self.now.position }
     {
         self.position
+    }
+
+    /// No two of the entries have one name: a law of views, told by a call that does nothing.
+    pub fn named_once(&self)
+        ensures { IsDistinct same_entry self.now.entries }
+    {
+        self.entries.named_once()
     }
 
     /// The entry of this name, as it shows.

@@ -1,9 +1,10 @@
 //! The metavariables of a part.
-ghost use Rattle.std.specs.Prelude.{◌≡◌, ◌≤◌, ◌<◌, ◌-◌, [], None, Some, length, take, map, slice_get, option_map, IfOk};
+ghost use Rattle.std.specs.Prelude.{◌≡◌, ◌≤◌, ◌<◌, ◌-◌, ◌++◌, ◌∷◌, [], None, Some, length, take, map, slice_get, option_map, IfOk, OnOk, OnErr};
 ghost use Rattle.std.specs.Option.{option_copied};
 ghost use Rattle.lf_elaboration.specs.Metavariables as spec;
 ghost use Rattle.lf_subst.specs.Answer.{Substitutes};
 ghost use Rattle.lf_meta.specs.Answers.{Makes, MakesLevel, Assigns, AssignsLevel, Refuses, PutsWithin};
+ghost use Rattle.lf_elaboration.specs.declared.change.Change.TheVariants.{Assigned};
 ghost use Rattle.lf_meta.specs.Kept.{origins_in};
 
 use crate::assigned::has_assigned;
@@ -280,6 +281,16 @@ impl Metas {
         ensures { Assigns self.old m value result self.new }
     {
         self.refusal(m, &value)?;
+        Ok(self.keep(m, value)?)
+    }
+
+    /// The metavariable stands for `value`, which isn't tested: for what is known to be right, as an instance that was
+    /// found in the context of the metavariable. After want of memory nothing is changed.
+    pub fn keep(&mut self, m: u32, value: Expr) -> Result<(), NoMemory>
+        requires { spec.value self.old m ≡ None }
+        ensures ok { OnOk result (self.new ≡ self.old ++ Assigned m value ∷ []) }
+        ensures err { OnErr result (self.new ≡ self.old) }
+    {
         let kept = value.copy(self.alloc)?;
         reach(&mut self.values, m as usize)?;
         self.changes.push(Change::Assigned {

@@ -1,5 +1,5 @@
 //! Telescopes: typed binders in a row, of which the first stands for the free variable k, the next for k + 1.
-ghost use Rattle.std.specs.Prelude.{◌≡◌, ◌++◌, length, IfOk, OnOk, IfSome};
+ghost use Rattle.std.specs.Prelude.{◌≡◌, ◌↔◌, ◌<◌, ◌^◌, ◌++◌, length, IfOk, OnOk, IfSome, IsSome};
 ghost use Rattle.lf_rules.specs.Telescope as spec;
 ghost use Rattle.lf_recursor.specs.Values.{opened_of};
 
@@ -52,9 +52,10 @@ pub fn count(locals: &[Local]) -> Result<u32, NoMemory>
     u32::try_from(locals.len()).map_err(|_| NoMemory)
 }
 
-/// How many pis the term begins with. `None` where it is no u32.
+/// How many pis the term begins with; `None` exactly where it is no u32.
 pub fn pi_count(term: &Expr) -> Option<u32>
-    ensures { IfSome result (λ n. n ≡ spec.pi_count term.now) }
+    ensures fits { IsSome result ↔ spec.pi_count term.now < 2 ^ 32 }
+    ensures count { IfSome result (λ n. n ≡ spec.pi_count term.now) }
 {
     match term.node() {
         ExprNode::Pi(_, _, b) => pi_count(b)?.checked_add(1),

@@ -1,7 +1,7 @@
 use Rattle.std.proofs.Common.{◌≡◌, ap, ◌∙◌, rules}
 use Rattle.lf_elaboration.specs.Metavariables.{value}
 use Rattle.lf_meta.proofs.Changing.{assigned_kept}
-use Rattle.lf_meta.proofs.metas.Metas.assign.Goals as goal
+use Rattle.lf_meta.proofs.metas.Metas.keep.Goals as goal
 
 pub invariant_of-self-2 : goal.invariant_of-self-2
 invariant_of-self-2 c =
