@@ -1,0 +1,4 @@
+pub mod Values
+pub mod Walk
+pub mod Forms
+pub mod Holes
