@@ -1,0 +1,4 @@
+pub mod Speaks
+pub mod Fronts
+pub mod Recursive
+pub mod Heads
