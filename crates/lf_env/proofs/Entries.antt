@@ -8,6 +8,7 @@ use Rattle.std.specs.Prelude.{
   ◌+◌,
   ◌-◌,
   ◌≤◌,
+  ◌<◌,
   Bool,
   true,
   false,
@@ -429,3 +430,17 @@ parent_of-take n h = parent_take n (length n - 1) (omega arith)
 
 pub last_of-place : (n : Path) (d : List ℕ) → 1 ≤ length n → get_or n (length n - 1) d ≡ last_of n
 last_of-place n d h = last_place n (length n - 1) d (omega arith)
+
+-- ---- Names
+
+named_step : (x e : Entry) (n : Path) (b : Bool) (rest : Option Entry) → has_name n x ≡ b → (Some e ≡ rest → has_name n e ≡ true)
+    → Some e ≡ cond b (Some x) rest → has_name n e ≡ true
+named_step x e n true rest h r s = cc
+named_step x e n false rest h r s = r s
+
+pub found_named : (es : List Entry) (n : Path) (e : Entry) → Some e ≡ find_entry es n → has_name n e ≡ true
+found_named [] n e s = cc
+found_named (x ∷ xs) n e s = named_step x e n (has_name n x) (find_entry xs n) refl (found_named xs n e) s
+
+pub nothing_unnamed : (es : List Entry) (e : Entry) → Some e ≡ find_entry es [] → 0 < length e.info.name → find_entry es [] ≡ None
+nothing_unnamed es e s h = let none : e.info.name ≡ [] = path_is e.info.name [] (found_named es [] e s) in absurd (omega (arith, h, ap (λ n. length n) none))

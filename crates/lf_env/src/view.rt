@@ -1,4 +1,4 @@
-ghost use Rattle.std.specs.Prelude.{◌≡◌, None, IfOk, OnOk, OnErr, map, [], ◌∷◌};
+ghost use Rattle.std.specs.Prelude.{◌≡◌, ◌<◌, None, IfOk, OnOk, OnErr, length, map, [], ◌∷◌};
 ghost use Rattle.std.specs.List.{IsDistinct};
 ghost use Rattle.std.specs.Option.{option_copied};
 ghost use Rattle.lf_checker.specs.View as view;
@@ -114,6 +114,13 @@ fn known_value(info: &ConstInfo) -> BodyOf<'_>
     }
 }
 
+// A name has a part.
+fn has_parts(info: &ConstInfo)
+    ensures { 0 < length info.now.name }
+{
+    info.name.parts();
+}
+
 /// An entry in which the name of a constant that couldn't be made is kept.
 fn failure(alloc: Global, name: Name, position: u32) -> Result<SharedEntry, NoMemory>
     ensures { IfOk result (λ e. failed_of e ≡ record { name = name; position = position }) }
@@ -160,6 +167,15 @@ impl View {
         ensures { IsDistinct same_entry self.now.entries }
     {
         self.entries.named_once()
+    }
+
+    /// Each entry's name has a part: a law of views, told by a call that does nothing.
+    pub fn names_have_parts(&self)
+        ensures { find_entry self.now.entries [] ≡ None }
+    {
+        if let Some(entry) = self.entry(&[]) {
+            has_parts(entry.info());
+        }
     }
 
     /// The entry of this name, as it shows.
