@@ -60,7 +60,7 @@ module _ (e : parts.Setting) where
   kept_pattern (Zero at) u w = refl
   kept_pattern (Successor y) u w = refl
 
-  kept_resolved : (alts : List Alternative) (u : ℕ) (w : State) → Kept (resolved e.part alts u w) (resolved (larger e) alts u w)
+  pub kept_resolved : (alts : List Alternative) (u : ℕ) (w : State) → Kept (resolved e.part alts u w) (resolved (larger e) alts u w)
   kept_resolved [] u w = refl
   kept_resolved (a ∷ alts) u w = search (kept, kept_pattern, kept_resolved alts) depth 12
 
@@ -71,14 +71,14 @@ module _ (e : parts.Setting) where
   kept_outcome f g h (gets y) u w = h y u w
   kept_outcome f g h (fault i) u w = refl
 
-  kept_compiles : {A B : Type 0} (m n : Compiling A) (f g : A → Run (Judged B)) → ((v : ℕ) → checking.Kept (m v) (n v))
+  pub kept_compiles : {A B : Type 0} (m n : Compiling A) (f g : A → Run (Judged B)) → ((v : ℕ) → checking.Kept (m v) (n v))
       → ((y : A) (u : ℕ) (w : State) → Kept (f y u w) (g y u w)) → (u : ℕ) (w : State)
       → Kept (compiles e.part m f u w) (compiles (larger e) n g u w)
   kept_compiles m n f g k h u w = kept_then _ _ _ _ (kept_checks m n u w (k u)) (λ o v z. kept_outcome f g h o v z)
 
   -- ---- Terms
 
-  kept_fields_for : (g : Argument) (L : Locals) (a : Resolved) (u : ℕ) → checking.Kept (fields_for e.part.view g L a u) (fields_for e.view g L a u)
+  pub kept_fields_for : (g : Argument) (L : Locals) (a : Resolved) (u : ℕ) → checking.Kept (fields_for e.part.view g L a u) (fields_for e.view g L a u)
   kept_fields_for g L a u =
       kept_checker.kept_then (type_seen g (see e.part.view a.constructor) u) (type_seen g (see e.view a.constructor) u) (fields_opened g L a)
       (fields_opened g L a)
@@ -86,7 +86,7 @@ module _ (e : parts.Setting) where
       (λ q. kept_checker.kept_self (type_seen g q u)) (kept_checker.see_kept e.part.view e.view e.tells a.constructor))
       (λ o v. kept_checker.kept_self (fields_opened g L a o v))
 
-  kept_close_locals : (k n : ℕ) (L : Locals) (u : ℕ) (w : State) → Kept (close_locals e.part e.left k n L u w) (close_locals (larger e) e.right k n L u w)
+  pub kept_close_locals : (k n : ℕ) (L : Locals) (u : ℕ) (w : State) → Kept (close_locals e.part e.left k n L u w) (close_locals (larger e) e.right k n L u w)
   kept_close_locals k zero L u w = refl
   kept_close_locals k (suc n) L u w =
       kept_then _ _ _ _ (kept_close_binder e L k (length L.types - 1) u w) (λ y v z. kept_close_locals k n (first_of L (length L.types - 1)) v z)

@@ -1,10 +1,12 @@
 -- The extension law of heads, by the forms of commands.
-use Rattle.std.proofs.Common.{◌≡◌, ℕ, List, [], ◌++◌, length, map, Option, None, refl}
+use Rattle.std.proofs.Common.{◌≡◌, ℕ, false, List, [], ◌++◌, length, map, Option, None, refl}
 use Rattle.lf_core.specs.declared.constant.ConstInfo.{ConstInfo}
 use Rattle.lf_core.specs.declared.constant.ConstKind.{ConstKind}
+use Rattle.lf_name.specs.declared.binder.BinderKind.{BinderKind}
 use Rattle.lf_syntax.specs.Tree.{TermTree}
 use Rattle.lf_syntax.specs.declared.command.CtorDecl.{CtorDecl}
-use Rattle.lf_checker.specs.View.{View, not_there, there_of}
+use Rattle.lf_syntax.specs.declared.command.FieldDecl.{FieldDecl}
+use Rattle.lf_checker.specs.View.{View, not_there, stands_before, there_of}
 use Rattle.lf_checker.specs.Extends.{Tells}
 use Rattle.lf_elaboration.specs.Variables.{level_names}
 use Rattle.lf_elaboration.specs.Part.{State, Run, Part}
@@ -17,6 +19,7 @@ use Rattle.lf_document.specs.Setting.{Setting, Declaration, most_levels, most_le
 use Rattle.lf_document.specs.Headers.{header_part, Stated, axiom_constants, stated_for_value, constants_made, in_one_part, axiom_head, definition_head}
 use Rattle.lf_document.specs.Values.{whole_definition}
 use Rattle.lf_document.specs.Inductives.{constructing, inductive_constants, inductive_head}
+use Rattle.lf_document.specs.StructureCommand.{structure_constants, structure_head}
 use Rattle.lf_document.specs.Queries.{told, query, variable_types, checked_term, reduced_term}
 use Rattle.lf_document.specs.TaskValue.{value_part, untyped_head}
 use Rattle.lf_document_laws.specs.Extension.{Kept, on_view, HeadsExtend}
@@ -24,6 +27,7 @@ use Rattle.lf_document_laws.proofs.Kept.{kept_self, kept_then, kept_part, kept_j
 use Rattle.lf_document_laws.proofs.Naming.{kept_at_most, kept_named, kept_named_new}
 use Rattle.lf_document_laws.proofs.Wholes.{kept_stated, kept_stated_for_value, kept_whole_definition}
 use Rattle.lf_document_laws.proofs.Inductives.{kept_inductive}
+use Rattle.lf_document_laws.proofs.Structures.{kept_structure_constants}
 use Rattle.lf_document_laws.proofs.Queries.{kept_variable, kept_checked, kept_reduced}
 
 module _ (X : Setting) (V : View) (x : Tells V X.view) (g : Log) where
@@ -60,6 +64,12 @@ module _ (X : Setting) (V : View) (x : Tells V X.view) (g : Log) where
       (λ e u s. kept_judged (inductive_constants X D (map (constructing D.name) ks)) (inductive_constants (on_view X V) D (map (constructing D.name) ks)) u s
       (kept_inductive X V x D e (map (constructing D.name) ks) u s))
 
+  kept_structure_head : stands_before X.view.position X.position ≡ false → (kind : BinderKind) (D : Declaration) (fs : List FieldDecl)
+      → Kept (structure_head X kind D fs g) (structure_head (on_view X V) kind D fs g)
+  kept_structure_head own kind D fs =
+      kept_one_part most_levels_of_type D (structure_constants X kind D fs) (structure_constants (on_view X V) kind D fs)
+      (λ e u s. kept_structure_constants X V x own kind D e fs u s)
+
   kept_query : (at : ℕ) (levels : List Path) (f : Part → Run (Option Diagnostic))
       → ((u : ℕ) (s : State) → elaborating.Kept (f (part X X.view levels None at) u s) (f (part X V levels None at) u s))
       → Kept (query X at levels f g) (query (on_view X V) at levels f g)
@@ -76,6 +86,7 @@ heads_extend = record {
   headers = λ kind D X V x g. kept_definition X V x g kind D;
   definitions = λ D v X V x g. kept_untyped X V x g D v;
   inductives = λ D ks X V x g. kept_inductive_head X V x g D ks;
+  structures = λ kind D fs X V x own g. kept_structure_head X V x g own kind D fs;
   variables = λ c at bs X V x g. kept_query X V x g at (level_names X.scope [] c) (variable_types (taken_binders X.scope c ++ of_groups bs))
       (kept_variable X X.view V x (level_names X.scope [] c) at (taken_binders X.scope c ++ of_groups bs));
   checks = λ c at t X V x g. kept_query X V x g at (level_names X.scope [] c) (checked_term (taken_binders X.scope c) t)

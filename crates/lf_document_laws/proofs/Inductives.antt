@@ -39,10 +39,10 @@ use Rattle.lf_document_laws.proofs.Parts.{kept_kernel, kept_under_binders, kept_
 ruleset kept = (kept_self, kept_then, kept_choose, kept_or_fail, kept_spend)
 
 -- A part that finds the type's own name, over both views.
-abbrev named_part : Setting → View → Declaration → Part
+abbrev pub named_part : Setting → View → Declaration → Part
 named_part X W D = record (part X W D.levels None D.at) { own = Some D.name }
 
-abbrev named_both : (X : Setting) (W V : View) → Tells V W → Declaration → parts.Setting
+abbrev pub named_both : (X : Setting) (W V : View) → Tells V W → Declaration → parts.Setting
 named_both X W V x D = record {
   part = named_part X W D;
   view = V;

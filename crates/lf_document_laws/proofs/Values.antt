@@ -34,5 +34,5 @@ axioms_reached_extend X V x a b at n g =
     (kept_part X.budget at (judged m) (judged k) g (λ u s. kept_judged m k u s (same u s)))) (λ r l. kept_self (told at r.value l))
 
 pub values_extend : ValuesExtend
-values_extend f h X V x =
-    kept_outcome _ _ (kept_then _ _ _ _ (h X V x _) (λ m l. kept_then _ _ _ _ (kept_asking X.view V x (names_of m) l) (λ y k. refl)))
+values_extend f X V x h =
+    kept_outcome _ _ (kept_then _ _ _ _ (h _) (λ m l. kept_then _ _ _ _ (kept_asking X.view V x (names_of m) l) (λ y k. refl)))
