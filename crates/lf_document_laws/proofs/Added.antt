@@ -1,16 +1,15 @@
 -- What the kernel gives for an inductive declaration has names that the view tells not to be there, so that its constants may be added to it.
-use Rattle.std.proofs.Common.{◌≡◌, ℕ, suc, Bool, ◌&&◌, List, [], ◌∷◌, ◌++◌, Option, Some, None, refl, subst, sym}
+use Rattle.std.proofs.Common.{◌≡◌, ℕ, suc, Bool, ◌&&◌, List, [], ◌∷◌, ◌++◌, Option, Some, None, subst, sym}
 use Rattle.lf_core.specs.Term.{Path, Universe, Term}
 use Rattle.lf_core.specs.declared.constant.ConstInfo.{ConstInfo}
-use Rattle.lf_core.specs.declared.constant.ConstKind.TheVariants.{Axiom, Inductive, Constructor, Recursor}
 use Rattle.lf_core.specs.declared.constant.CtorInfo.{CtorInfo}
 use Rattle.lf_core.specs.declared.constant.IndDecl.{IndDecl}
 use Rattle.lf_rules.specs.Recursor.{is_among, recursor_name, recursor_type, recursor_family, motive_level, recursor_rules, recursor_of}
 use Rattle.lf_rules.specs.Inductive.{constructors_from, declared_constants}
 use Rattle.lf_checker.specs.View.{View, There, not_there, there_of}
-use Rattle.lf_checker.specs.Run.{Run, gives, refuse, choose}
+use Rattle.lf_checker.specs.Run.{Run, gives, refuse}
 use Rattle.lf_checker.specs.declared.fault.TypeFault.TheVariants.{NotClosed, Duplicate}
-use Rattle.lf_checker.specs.Checker.{unless_there, is_closed}
+use Rattle.lf_checker.specs.Checker.{is_closed}
 use Rattle.lf_checker.specs.Admission.{put_all, given, on_result, admit, are_closed, unless_taken, unless_declared, add_inductive}
 use Rattle.lf_document_laws.proofs.Pushed.{IsTold, AllTold}
 use Rattle.lf_document_laws.proofs.Gives.{Gives, gives_then, gives_choose, gives_unless}

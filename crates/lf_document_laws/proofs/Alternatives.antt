@@ -1,5 +1,5 @@
 -- The extension law of definitions by equations: their terms, and what the alternatives make.
-use Rattle.std.proofs.Common.{ℕ, suc, List, [], ◌∷◌, Some, None, Option, length, refl}
+use Rattle.std.proofs.Common.{ℕ, List, [], ◌∷◌, Some, Option, refl}
 use Rattle.lf_core.specs.Term.{Path, Term}
 use Rattle.lf_core.specs.declared.constant.ConstInfo.{ConstInfo}
 use Rattle.lf_syntax.specs.Tree.{TermTree}
@@ -16,23 +16,7 @@ use Rattle.lf_elaboration_laws.proofs.Kept.{kept_self, kept_then, kept_choose, k
 use Rattle.lf_elaboration_laws.proofs.Parts as parts
 use Rattle.lf_elaboration_laws.proofs.Parts.{kept_close}
 use Rattle.lf_document.specs.Setting.{Setting, nesting, part, calls_of}
-use Rattle.lf_document.specs.EquationsBody.{
-  Resolved,
-  cases_with,
-  fields_for,
-  with_own,
-  with_fields,
-  term_against,
-  alternative_term,
-  alternative_terms,
-  bodies,
-  with_props,
-  valued,
-  compiled,
-  by_argument,
-  tested,
-  equations_value,
-}
+use Rattle.lf_document.specs.EquationsBody.{Resolved, cases_with, fields_for, term_against, alternative_term, alternative_terms, bodies, with_props, valued, compiled, by_argument, tested, equations_value}
 use Rattle.lf_document_laws.proofs.Parts.{both, kept_accepted}
 use Rattle.lf_document_laws.proofs.Equations.{kept_resolved, kept_compiles, kept_fields_for, kept_close_locals}
 

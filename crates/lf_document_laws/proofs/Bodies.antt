@@ -1,8 +1,7 @@
 -- The extension law of bodies: what the helpers add extends the view as it does without them, and the value follows.
-use Rattle.std.proofs.Common.{◌≡◌, ℕ, Bool, true, false, List, [], ◌∷◌, ◌++◌, if◌then◌else◌, Option, Some, None, length, refl, ap, subst, sym}
+use Rattle.std.proofs.Common.{◌≡◌, ℕ, Bool, true, false, List, [], ◌∷◌, if◌then◌else◌, Option, Some, None, length, refl, subst}
 use Rattle.lf_core.specs.Term.{Path, Term}
 use Rattle.lf_core.specs.Suffix.{suffix_of}
-use Rattle.lf_core.specs.declared.constant.ConstInfo.{ConstInfo}
 use Rattle.lf_core.specs.declared.constant.ConstKind.TheVariants.{Axiom, Def as DefKind}
 use Rattle.lf_core.specs.declared.suffix.Suffix.{Suffix}
 use Rattle.lf_syntax.specs.Tree.{TermTree}
@@ -14,44 +13,29 @@ use Rattle.lf_syntax.specs.declared.command.Command.TheVariants.{
   Theorem,
   Instance,
 }
-use Rattle.lf_checker.specs.View.{View, is_child, last_of, not_there, there_of, stands_before, pushed}
+use Rattle.lf_checker.specs.View.{View, is_child, last_of, not_there, there_of, stands_before}
 use Rattle.lf_checker.specs.Extends.{Tells}
 use Rattle.lf_checker.specs.Checker.{add_header}
 use Rattle.lf_extension_laws.proofs.Extended_declarations.{there_kept}
-use Rattle.lf_branch.specs.Branch.{Branch, Verdict, not_owned, reserved, duplicate, waits, taken, by_there, by_suffix, verdict, with_constant}
+use Rattle.lf_branch.specs.Branch.{Branch, Verdict, not_owned, reserved, duplicate, waits, taken, by_there, by_suffix, verdict}
 use Rattle.lf_elaboration.specs.Run as run
 use Rattle.lf_elaboration.specs.Closing.{sorry_of}
 use Rattle.lf_elaboration.specs.Part.{Part, Run, State}
 use Rattle.lf_elaboration.specs.Terms.{OneBinder}
 use Rattle.lf_elaboration_laws.specs.Extension as elaborating
-use Rattle.lf_elaboration_laws.proofs.Kept as kept_run
 use Rattle.lf_document.specs.Task.{Log, Attempt, done, need, Task, Judged, Ended, go_on, gives, judged, in_part}
 use Rattle.lf_document.specs.Setting.{Setting, Declaration, declaration, nesting, part, no_locals, by_kernel, of_groups}
 use Rattle.lf_document.specs.Naming.{if_taken}
-use Rattle.lf_document.specs.Constants.{Header, Valued, with_value, Made}
+use Rattle.lf_document.specs.Constants.{Header, Valued, with_value}
 use Rattle.lf_document.specs.Headers.{whole_type, Stated, stated, stated_for_value, header_of}
-use Rattle.lf_document.specs.Values.{written_value, completed}
+use Rattle.lf_document.specs.Values.{written_value}
 use Rattle.lf_document.specs.Helpers.{helper_name, helper_part, helper_header, with_helper, helpers}
 use Rattle.lf_document.specs.EquationsBody.{equations_value}
 use Rattle.lf_document.specs.TaskValue.{branch_of, value_in, with_helpers, written_body, equations_body, body_of, body}
 use Rattle.lf_document_laws.specs.Extension.{Kept, on_view, BodiesExtend}
-use Rattle.lf_document_laws.proofs.Kept.{kept_self, kept_then, kept_part, kept_judged}
+use Rattle.lf_document_laws.proofs.Kept.{kept_then, kept_part, kept_judged}
 use Rattle.lf_document_laws.proofs.Naming.{SameVerdict, there_told, kept_taken}
-use Rattle.lf_document_laws.proofs.Gives.{
-  Makes,
-  makes_then,
-  makes_with,
-  makes_answered,
-  gives_header,
-  Leaves,
-  leaves_then,
-  leaves_with,
-  kept_left,
-  OfRight,
-  OfValue,
-  makes_judged,
-  leaves_part,
-}
+use Rattle.lf_document_laws.proofs.Gives.{Makes, makes_then, makes_with, makes_answered, gives_header, Leaves, leaves_with, OfValue, makes_judged, leaves_part}
 use Rattle.lf_document_laws.proofs.Pushed.{IsTold, one_extends}
 use Rattle.lf_document_laws.proofs.Added.{told_of}
 use Rattle.lf_document_laws.proofs.Wholes.{kept_stated_for_value, kept_written_value}

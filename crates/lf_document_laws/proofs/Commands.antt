@@ -1,5 +1,5 @@
 -- The extension law of the values of heads and bodies, for each command.
-use Rattle.std.proofs.Common.{◌≡◌, ℕ, Bool, true, false, Option, Some, None, refl}
+use Rattle.std.proofs.Common.{Option, Some, None, refl}
 use Rattle.lf_core.specs.declared.constant.ConstKind.TheVariants.{Def as DefKind, Theorem as TheoremKind}
 use Rattle.lf_name.specs.declared.binder.BinderKind.TheVariants.{Explicit, Inst}
 use Rattle.lf_syntax.specs.Tree.{TermTree}
@@ -24,7 +24,7 @@ use Rattle.lf_syntax.specs.declared.command.Command.TheVariants.{
   PrintAxioms,
   Bad,
 }
-use Rattle.lf_checker.specs.View.{View, stands_before}
+use Rattle.lf_checker.specs.View.{View}
 use Rattle.lf_checker.specs.Extends.{Extends}
 use Rattle.lf_elaboration_laws.specs.Extension.{AreDistinct}
 use Rattle.lf_document.specs.Task.{Log}

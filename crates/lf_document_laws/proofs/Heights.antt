@@ -1,5 +1,5 @@
 -- The extension law of heights, of values as they are completed, and of what stands for a value that fails.
-use Rattle.std.proofs.Common.{◌≡◌, ℕ, Option, Some, None, refl, subst}
+use Rattle.std.proofs.Common.{ℕ, Option, Some, None, refl, subst}
 use Rattle.lf_core.specs.Term.{Path, Term, bound, free, meta, sort, const, app, lam, pi, letin, lit, proj}
 use Rattle.lf_checker.specs.View.{View, body_of}
 use Rattle.lf_checker.specs.Extends.{Tells}
@@ -11,7 +11,7 @@ use Rattle.lf_extension_laws.proofs.Kept as kept_checker
 use Rattle.lf_extension_laws.proofs.Kept.{see_kept, body_kept, kept_seen, kept_body}
 use Rattle.lf_elaboration.specs.Part.{State, Run}
 use Rattle.lf_elaboration_laws.specs.Extension as elaborating
-use Rattle.lf_document.specs.Task.{Log, Judged, in_part}
+use Rattle.lf_document.specs.Task.{Log, Judged}
 use Rattle.lf_document.specs.Setting.{Setting}
 use Rattle.lf_document.specs.Constants.{Header, Valued}
 use Rattle.lf_document.specs.Values.{height_read, value_or_sorry, completed}

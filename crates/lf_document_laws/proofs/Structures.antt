@@ -1,5 +1,5 @@
 -- The extension law of structures and classes: what is added to the view for the fields extends as the view does.
-use Rattle.std.proofs.Common.{◌≡◌, ℕ, suc, Bool, false, List, [], ◌∷◌, ◌++◌, Option, Some, None, length, refl, subst}
+use Rattle.std.proofs.Common.{◌≡◌, ℕ, suc, false, List, [], ◌∷◌, Option, Some, None, length, refl, subst}
 use Rattle.lf_core.specs.Term.{Path, Term}
 use Rattle.lf_core.specs.declared.constant.ConstInfo.{ConstInfo}
 use Rattle.lf_core.specs.declared.constant.ConstKind.TheVariants.{Axiom}
@@ -15,7 +15,7 @@ use Rattle.lf_checker.specs.Extends.{Shape, Tells}
 use Rattle.lf_checker.specs.Run as checker
 use Rattle.lf_checker.specs.Calls.{Seen, known, unknown, missing, see}
 use Rattle.lf_checker.specs.Structures.{Structure, constructor_seen, by_type, structure_seen, structure_of}
-use Rattle.lf_checker.specs.Checker.{is_closed, add_header, add_decl}
+use Rattle.lf_checker.specs.Checker.{add_header, add_decl}
 use Rattle.lf_checker.specs.Admission.{add_inductive}
 use Rattle.lf_extension_laws.specs.Extension as checking
 use Rattle.lf_extension_laws.proofs.Kept as kept_checker
@@ -23,33 +23,13 @@ use Rattle.lf_extension_laws.proofs.Kept.{kept_seen, see_kept}
 use Rattle.lf_extension_laws.proofs.Extended_declarations.{SameThere, there_kept, header_kept, decl_kept}
 use Rattle.lf_elaboration.specs.Forms.{Binding, as_pi}
 use Rattle.lf_elaboration.specs.Part.{Run, State}
-use Rattle.lf_elaboration.specs.Run as run
-use Rattle.lf_elaboration.specs.Statement.{open_pis, pis_closed, lambdas_closed}
+use Rattle.lf_elaboration.specs.Statement.{open_pis}
 use Rattle.lf_elaboration_laws.specs.Extension.{Kept}
-use Rattle.lf_elaboration_laws.proofs.Kept.{kept_self, kept_then, kept_choose}
+use Rattle.lf_elaboration_laws.proofs.Kept.{kept_then, kept_choose}
 use Rattle.lf_document.specs.Task.{Judged}
 use Rattle.lf_document.specs.Setting.{Setting, Declaration, nesting, no_locals, by_kernel}
 use Rattle.lf_document.specs.Inductives.{Constructing, own_part, declared, inductive_constants}
-use Rattle.lf_document.specs.StructureCommand.{
-  field_name,
-  field_there,
-  unless_taken,
-  with_self,
-  projection,
-  field_constant,
-  field_definition,
-  at_field,
-  field_definitions,
-  all_fields,
-  pushed_all,
-  with_definitions,
-  if_structure,
-  structure_constants,
-  constructor_of_fields,
-  constructor_name,
-  recursor_name,
-  field_names,
-}
+use Rattle.lf_document.specs.StructureCommand.{field_name, field_there, unless_taken, with_self, field_constant, field_definition, at_field, field_definitions, all_fields, pushed_all, with_definitions, if_structure, structure_constants, constructor_of_fields, constructor_name, recursor_name, field_names}
 use Rattle.lf_document_laws.specs.Extension.{on_view}
 use Rattle.lf_document_laws.proofs.Gives.{Gives, gives_then, gives_with, gives_header, kept_given, Makes, makes_then, makes_answered, kept_made}
 use Rattle.lf_document_laws.proofs.Pushed.{IsTold, AllTold, own_still, one_extends, all_extend}

@@ -11,7 +11,7 @@ use Rattle.lf_document.specs.Task.{judged, in_part}
 use Rattle.lf_document.specs.Setting.{most_levels, part}
 use Rattle.lf_document.specs.Queries.{told, axioms_walked, axioms_of}
 use Rattle.lf_document.specs.Asking.{names_of}
-use Rattle.lf_document_laws.specs.Extension.{Kept, AxiomsReachedExtend, ValuesExtend}
+use Rattle.lf_document_laws.specs.Extension.{AxiomsReachedExtend, ValuesExtend}
 use Rattle.lf_document_laws.proofs.Kept.{kept_self, kept_then, kept_part, kept_judged, kept_outcome}
 use Rattle.lf_document_laws.proofs.Naming.{kept_at_most}
 use Rattle.lf_document_laws.proofs.Parts.{both}
