@@ -17,3 +17,10 @@ mod Heads
 mod Values
 mod Reals
 mod Commands
+mod Wants
+mod Asked
+mod Lasting
+mod LastingCommands
+mod Lasts
+mod Tasks
+mod Ranks

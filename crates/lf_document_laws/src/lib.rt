@@ -9,6 +9,8 @@ ghost use Rattle.lf_document_laws.specs.Extension.{
   RealValuesExtend,
   ValuesExtend,
 };
+ghost use Rattle.lf_document_laws.specs.Needs.{NeedsHaveLowerRank, TasksLast, ValuesWait};
+use lf_resolution_laws::resolution_waits_for_the_view;
 
 /// What a head gives over a view it gives over each view that tells more, by the forms of commands.
 pub fn heads_are_extended()
@@ -40,3 +42,26 @@ pub fn bodies_are_extended()
 pub fn commands_are_extended()
     ensures { CommandsExtend }
 {}
+
+/// What a head or a body waits for is what the command's view needs, whatever helpers and constants the command adds to
+/// it; and where it ends what was told before it is told still.
+pub fn tasks_wait_for_the_view()
+    ensures { TasksLast }
+{
+    resolution_waits_for_the_view();
+}
+
+/// The same of the values of heads, bodies and realized constants, with the names that stand in what is made.
+pub fn values_wait_for_the_view()
+    ensures { ValuesWait }
+{
+    resolution_waits_for_the_view();
+}
+
+/// The task that a head, a body or a realized constant waits for has a lower rank, over the view at its position, where
+/// no branch is open of the base.
+pub fn needs_have_lower_rank()
+    ensures { NeedsHaveLowerRank }
+{
+    resolution_waits_for_the_view();
+}
