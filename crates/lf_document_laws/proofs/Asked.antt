@@ -1,16 +1,16 @@
 -- Which tasks the checker's runs of documents wait for: statements, heights, inductive declarations, definitions by equations, fields.
-use Rattle.std.proofs.Common.{◌≡◌, ℕ, zero, suc, Bool, true, false, ◌&&◌, List, [], ◌∷◌, Option, Some, None, refl}
+use Rattle.std.proofs.Common.{ℕ, zero, suc, Bool, true, ◌&&◌, List, [], ◌∷◌, Option, Some, None, refl}
 use Rattle.lf_core.specs.Term.{Path, Universe, Term, bound, free, meta, sort, const, app, lam, pi, letin, lit, proj}
 use Rattle.lf_core.specs.declared.constant.ConstInfo.{ConstInfo}
 use Rattle.lf_core.specs.declared.constant.CtorInfo.{CtorInfo}
 use Rattle.lf_core.specs.declared.constant.IndDecl.{IndDecl}
 use Rattle.lf_core.specs.declared.constant.TaskKey.{TaskKey}
-use Rattle.lf_rules.specs.Environment.{Context, with}
+use Rattle.lf_rules.specs.Environment.{Context}
 use Rattle.lf_rules.specs.Telescope.{Telescope, Opened}
 use Rattle.lf_rules.specs.Recursor.{Family, recursor_name, is_among, recursor_type, recursor_family, motive_level, recursor_rules}
 use Rattle.lf_rules.specs.Inductive.{type_alone, declared_constants}
 use Rattle.lf_checker.specs.View.{View, KnownBody, value, opaque, unresolved, body_of, There, there, not_there, not_known, there_of}
-use Rattle.lf_checker.specs.Run.{Answer, Run, gives, refuse, choose, put}
+use Rattle.lf_checker.specs.Run.{Run, gives, refuse}
 use Rattle.lf_checker.specs.declared.fault.TypeFault.TheVariants.{NotClosed, Duplicate}
 use Rattle.lf_checker.specs.Calls.{Calls, Seen, known, unknown, missing, see}
 use Rattle.lf_checker.specs.Checker.{calls, is_closed, unless_there, body_height, seen_height, greatest_height, height_of}
@@ -47,7 +47,7 @@ use Rattle.lf_extension_laws.proofs.Only.{
 }
 use Rattle.lf_extension_laws.proofs.OnlyInfer.{only_sort, calls_ask}
 use Rattle.lf_elaboration.specs.Forms.{Binding, Instance, as_pi}
-use Rattle.lf_elaboration.specs.Induction.{fields_seen, recursor_path, codomain_at}
+use Rattle.lf_elaboration.specs.Induction.{fields_seen, recursor_path}
 use Rattle.lf_elaboration.specs.Statement.{open_binder, open_pis, pis_closed, lambdas_closed}
 use Rattle.lf_elaboration_laws.proofs.OnlySteps.{only_codomain}
 use Rattle.lf_equations.specs.declared.alternative.Case.{Case}

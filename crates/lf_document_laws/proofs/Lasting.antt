@@ -1,20 +1,17 @@
 -- What the parts of commands leave and wait for: what was asked for is asked for still, and needs are such keys. Types, values, declarations.
-use Rattle.std.proofs.Common.{ℕ, zero, suc, true, List, [], ◌∷◌, ◌++◌, length, Option, Some, None, refl}
-use Rattle.lf_core.specs.Term.{Path, Universe, Term, lam}
+use Rattle.std.proofs.Common.{ℕ, zero, suc, true, List, [], ◌∷◌, ◌++◌, Option, Some, None}
+use Rattle.lf_core.specs.Term.{Path, Term, lam}
 use Rattle.lf_core.specs.declared.constant.ConstInfo.{ConstInfo}
-use Rattle.lf_core.specs.declared.constant.CtorInfo.{CtorInfo}
 use Rattle.lf_core.specs.declared.constant.TaskKey.{TaskKey}
 use Rattle.lf_name.specs.declared.binder.Binder.{Binder}
-use Rattle.lf_rules.specs.Environment.{Context}
 use Rattle.lf_syntax.specs.Tree.{TermTree}
-use Rattle.lf_checker.specs.View.{View}
 use Rattle.lf_checker.specs.Run as checker
 use Rattle.lf_checker.specs.Checker.{add_header, add_decl}
 use Rattle.lf_extension_laws.proofs.Only.{Only, Reads, only_then, only_spend, only_caught, only_choose, only_put, only_made, only_opening}
 use Rattle.lf_extension_laws.proofs.Waiting.{only_header, only_decl}
 use Rattle.lf_elaboration.specs.Forms.{Binding, as_pi}
 use Rattle.lf_elaboration.specs.Run.{Answer, done, failed, out, need}
-use Rattle.lf_elaboration.specs.Part.{Part, Locals, State, Run, Calls, given, refusal_at}
+use Rattle.lf_elaboration.specs.Part.{Part, Locals, State, Run, given, refusal_at}
 use Rattle.lf_elaboration.specs.Closing.{close, close_binder}
 use Rattle.lf_elaboration.specs.Terms.{OneBinder, as_type, domain_type}
 use Rattle.lf_elaboration_laws.specs.Keeping.{Grows}
@@ -38,10 +35,9 @@ use Rattle.lf_elaboration_laws.proofs.Keeping.{
 use Rattle.lf_elaboration_laws.proofs.KeepingParts.{KeepingCalls, keeps_fault, keeps_close, keeps_close_binder}
 use Rattle.lf_elaboration_laws.proofs.KeepingTerms.{keeps_as_type}
 use Rattle.lf_elaboration_laws.proofs.KeepingItems.{Resolves, calls_keep}
-use Rattle.lf_document.specs.Task.{Judged, judged}
+use Rattle.lf_document.specs.Task.{judged}
 use Rattle.lf_document.specs.Setting.{Declaration, nesting, calls_of, no_locals, by_kernel}
 use Rattle.lf_document.specs.Binders.{Over, pi_over, under_binders, under_pi, under_pis}
-use Rattle.lf_document.specs.Constants.{with_value}
 use Rattle.lf_document.specs.Headers.{type_or_default, whole_type, stated, stated_for_value, axiom_constants}
 use Rattle.lf_document.specs.Values.{against, whole_value, accepted, written_value, whole_function, definition_of, whole_definition}
 
@@ -147,7 +143,6 @@ module _ (Key : TaskKey → Type 0) (P : Part) (reads : Reads P.view Key) (resol
   pub on_default : (o : Option TermTree) (L : Locals) (u : ℕ) (w : State) → On Key w (type_or_default P (calls_of P) o L u w)
   on_default (Some s) L u w = search (keeps, only, steps, grows_same, on_type) depth 10
   on_default None L u w = grows_same w
-
 
   on_whole_type : (bs : List OneBinder) (s : Option TermTree) (u : ℕ) (w : State) → On Key w (whole_type P bs s u w)
   on_whole_type bs s u w =

@@ -1,8 +1,7 @@
 -- What the parts of inductive types, structures, definitions by equations and of the commands that ask leave and wait for.
-use Rattle.std.proofs.Common.{◌≡◌, ℕ, zero, suc, ◌-◌, Bool, true, false, List, [], ◌∷◌, ◌++◌, length, if◌then◌else◌, Option, Some, None, refl}
+use Rattle.std.proofs.Common.{◌≡◌, ℕ, zero, suc, ◌-◌, Bool, true, false, List, [], ◌∷◌, length, if◌then◌else◌, Option, Some, None, refl}
 use Rattle.lf_core.specs.Term.{Path, Term}
 use Rattle.lf_core.specs.declared.constant.ConstInfo.{ConstInfo}
-use Rattle.lf_core.specs.declared.constant.ConstKind.TheVariants.{Axiom}
 use Rattle.lf_core.specs.declared.constant.CtorInfo.{CtorInfo}
 use Rattle.lf_core.specs.declared.constant.TaskKey.{TaskKey}
 use Rattle.lf_name.specs.declared.binder.BinderKind.{BinderKind}
@@ -10,17 +9,12 @@ use Rattle.lf_rules.specs.Recursor.{is_among}
 use Rattle.lf_rules.specs.Telescope.{Telescope}
 use Rattle.lf_syntax.specs.Tree.{TermTree}
 use Rattle.lf_syntax.specs.declared.leaf.Ident.{Ident}
-use Rattle.lf_syntax.specs.declared.command.FieldDecl.{FieldDecl}
 use Rattle.lf_syntax.specs.declared.pattern.Alternative.{Alternative}
 use Rattle.lf_syntax.specs.declared.pattern.Pattern.{Pattern}
 use Rattle.lf_syntax.specs.declared.pattern.Pattern.TheVariants.{Constructor, Zero, Successor}
 use Rattle.lf_checker.specs.View.{View, There, there, not_there, not_known, stands_before, there_of, pushed}
-use Rattle.lf_checker.specs.Run as checker
 use Rattle.lf_checker.specs.Calls.{Seen, known, unknown, missing, see}
-use Rattle.lf_checker.specs.Checker.{calls, normalize, add_header, add_decl}
-use Rattle.lf_checker.specs.Structures.{Structure, structure_of}
-use Rattle.lf_checker.specs.Admission.{add_inductive}
-use Rattle.lf_extension_laws.specs.Needs.{IsWanted}
+use Rattle.lf_checker.specs.Checker.{normalize}
 use Rattle.lf_extension_laws.proofs.Only.{
   Only,
   SeenIn,
@@ -35,15 +29,14 @@ use Rattle.lf_extension_laws.proofs.Only.{
   only_opening,
 }
 use Rattle.lf_extension_laws.proofs.OnlyInfer.{calls_ask}
-use Rattle.lf_extension_laws.proofs.OnlyWhnf.{only_structure}
 use Rattle.lf_extension_laws.proofs.Waiting.{only_header, only_decl}
 use Rattle.lf_elaboration.specs.Forms.{Binding, as_pi}
 use Rattle.lf_elaboration.specs.Axioms as axioms
 use Rattle.lf_elaboration.specs.Run.{gives, checks}
 use Rattle.lf_elaboration.specs.Scope.{candidates_of}
-use Rattle.lf_elaboration.specs.Part.{Part, Locals, State, Run, given, ask}
+use Rattle.lf_elaboration.specs.Part.{Part, Locals, State, Run, ask}
 use Rattle.lf_elaboration.specs.Identifiers.{Meaning, own_type, constant, nothing, waits, is_own, or_next, first_found, meaning_of, is_realized, ask_if_realized}
-use Rattle.lf_elaboration.specs.Statement.{open_pis, pis_closed, lambdas_closed}
+use Rattle.lf_elaboration.specs.Statement.{open_pis}
 use Rattle.lf_elaboration.specs.Terms.{OneBinder}
 use Rattle.lf_elaboration_laws.proofs.Wanted.{walk_wants}
 use Rattle.lf_elaboration_laws.specs.Keeping.{Grows}
@@ -65,8 +58,8 @@ use Rattle.lf_equations.specs.Outcome.{Outcome, gets, fault, Compiling}
 use Rattle.lf_equations.specs.Argument.{Argument, argument}
 use Rattle.lf_equations.specs.Compile.{compile}
 use Rattle.lf_document.specs.Task.{Judged}
-use Rattle.lf_document.specs.Setting.{Setting, Declaration, nesting, calls_of, no_locals, by_kernel}
-use Rattle.lf_document.specs.Binders.{pi_over, nothing_over, under_binders, under_pis}
+use Rattle.lf_document.specs.Setting.{Declaration, nesting, calls_of, no_locals}
+use Rattle.lf_document.specs.Binders.{pi_over, nothing_over, under_binders}
 use Rattle.lf_document.specs.Headers.{type_or_default}
 use Rattle.lf_document.specs.Queries.{
   nothing_under,
@@ -80,19 +73,7 @@ use Rattle.lf_document.specs.Queries.{
   axioms_walked,
   axioms_of,
 }
-use Rattle.lf_document.specs.Inductives.{
-  own_part,
-  family_type,
-  with_family,
-  Constructing,
-  result_type,
-  fields_type,
-  implicit_pi,
-  constructor_type,
-  constructors,
-  instantiated_types,
-  whole_declaration,
-}
+use Rattle.lf_document.specs.Inductives.{family_type, Constructing, result_type, fields_type, implicit_pi, constructor_type, constructors, instantiated_types, whole_declaration}
 use Rattle.lf_document.specs.StructureCommand.{
   field_name,
   field_there,
@@ -103,31 +84,7 @@ use Rattle.lf_document.specs.StructureCommand.{
   field_definitions,
   all_fields,
 }
-use Rattle.lf_document.specs.EquationsBody.{
-  Resolved,
-  constructor_of,
-  resolved,
-  on_outcome,
-  compiles,
-  type_seen,
-  fields_opened,
-  fields_for,
-  first_of,
-  close_locals,
-  with_own,
-  with_fields,
-  term_against,
-  alternative_term,
-  alternative_terms,
-  bodies,
-  with_props,
-  cases_with,
-  valued,
-  compiled,
-  by_argument,
-  tested,
-  equations_value,
-}
+use Rattle.lf_document.specs.EquationsBody.{Resolved, constructor_of, resolved, on_outcome, compiles, type_seen, fields_opened, fields_for, first_of, close_locals, term_against, alternative_term, alternative_terms, bodies, with_props, cases_with, valued, compiled, by_argument, tested, equations_value}
 use Rattle.lf_document_laws.proofs.Wants.{Wants, reads_of, wants_pushed, own_childless}
 use Rattle.lf_document_laws.proofs.Asked.{only_open, only_pis, only_lambdas, only_argument, only_compile}
 use Rattle.lf_document_laws.proofs.Lasting.{

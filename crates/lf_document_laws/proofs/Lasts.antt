@@ -1,5 +1,5 @@
 -- Tasks whose needs are such keys and that keep what was told, through the ways to put tasks together; and the tests of names.
-use Rattle.std.proofs.Common.{◌≡◌, ℕ, Bool, true, false, ◌&&◌, nat_lt, if◌then◌else◌, List, [], ◌∷◌, ◌++◌, Option, Some, None, length, refl, sym, ap, ◌∙◌}
+use Rattle.std.proofs.Common.{◌≡◌, ℕ, Bool, true, false, ◌&&◌, nat_lt, if◌then◌else◌, List, [], ◌∷◌, ◌++◌, Option, Some, None, length, refl, ap, ◌∙◌}
 use Rattle.lf_core.specs.Term.{Path}
 use Rattle.lf_core.specs.Suffix.{suffix_of, fits_kind}
 use Rattle.lf_core.specs.declared.suffix.Suffix.{Suffix}
@@ -15,7 +15,6 @@ use Rattle.lf_elaboration.specs.Run as run
 use Rattle.lf_elaboration.specs.Part.{State, Run}
 use Rattle.lf_elaboration.specs.Variables.{repeated_level}
 use Rattle.lf_elaboration_laws.specs.Unifier.{Begins}
-use Rattle.lf_elaboration_laws.specs.Keeping.{Grows}
 use Rattle.lf_msg.specs.declared.naming.NamingError.TheVariants.{Reserved, Duplicate, TooManyLevelNames, DuplicateLevel}
 use Rattle.lf_msg.specs.declared.diagnostic.Diagnostic.{Diagnostic}
 use Rattle.lf_msg.specs.declared.diagnostic.Diagnostic.TheVariants.{Naming}

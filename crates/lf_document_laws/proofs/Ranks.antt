@@ -1,38 +1,5 @@
 -- What a view needs comes before: its open branches are of earlier commands, and so are the parents of its realizable names.
-use Rattle.std.proofs.Common.{
-  ◌≡◌,
-  ◌<◌,
-  ◌≤◌,
-  ◌⊎◌,
-  inl,
-  inr,
-  ℕ,
-  zero,
-  suc,
-  ◌+◌,
-  Bool,
-  true,
-  false,
-  ◌&&◌,
-  ◌||◌,
-  nat_eq,
-  nat_lt,
-  if◌then◌else◌,
-  List,
-  [],
-  ◌∷◌,
-  Option,
-  Some,
-  None,
-  Contains,
-  filter,
-  refl,
-  sym,
-  ap,
-  subst,
-  ◌∙◌,
-  arith,
-}
+use Rattle.std.proofs.Common.{◌≡◌, ◌<◌, ◌≤◌, ◌⊎◌, inl, inr, ℕ, suc, ◌+◌, Bool, true, false, ◌&&◌, ◌||◌, nat_eq, nat_lt, if◌then◌else◌, List, [], ◌∷◌, Option, Some, None, Contains, filter, refl, sym, ap, subst, ◌∙◌, arith}
 use Rattle.std.proofs.lemmas.Bool.{lt-ltb, ltb-true, eqb-true, eqb-false, eq-eqb}
 use Rattle.std.proofs.Math.Nat.{eq-or-lt_of_le}
 use Rattle.lf_core.specs.Term.{Path}
@@ -40,41 +7,13 @@ use Rattle.lf_core.specs.Suffix.{suffix_of, fits_kind}
 use Rattle.lf_core.specs.declared.suffix.Suffix.{Suffix}
 use Rattle.lf_core.specs.declared.constant.TaskKey.{TaskKey}
 use Rattle.lf_core.specs.declared.constant.TaskKey.TheVariants.{Head, Body, Real}
-use Rattle.lf_checker.specs.View.{
-  View,
-  Entry,
-  OpenBranch,
-  base_position,
-  stands_before,
-  find_entry,
-  branch_over,
-  parent_of,
-  last_of,
-  found,
-  absent,
-  need_body,
-  need_real,
-  answer_of,
-  by_parent,
-  by_suffix,
-  by_branch,
-  by_entry,
-  lookup_of,
-  position_of,
-  origin_of,
-  entries_before,
-  branches_before,
-  failed_before,
-  view_at,
-  view_real_at,
-}
+use Rattle.lf_checker.specs.View.{View, Entry, OpenBranch, base_position, stands_before, find_entry, branch_over, parent_of, last_of, absent, need_body, need_real, answer_of, by_parent, by_suffix, by_branch, by_entry, lookup_of, position_of, origin_of, entries_before, branches_before, failed_before, view_at, view_real_at}
 use Rattle.lf_extension_laws.specs.Needs.{IsWanted}
 use Rattle.lf_resolution_laws.specs.Needs.{ResolutionWaits}
-use Rattle.lf_elaboration.specs.Scope.{Scope}
 use Rattle.lf_elaboration_laws.proofs.Reached.{cons_cases, here, there, none_in}
 use Rattle.lf_document.specs.TaskValue.{Outcome, has, waits_for, head_value, body_value, real_value}
 use Rattle.lf_document.specs.Rank.{rank_of, is_lower}
-use Rattle.lf_document_laws.specs.Needs.{OutcomeWaits, OfCommands, origin_in, ComesBefore, at_position, NeedsHaveLowerRank}
+use Rattle.lf_document_laws.specs.Needs.{OutcomeWaits, OfCommands, ComesBefore, at_position, NeedsHaveLowerRank}
 use Rattle.lf_document_laws.proofs.Tasks.{values_wait}
 
 -- ---- Tests of numbers
@@ -122,6 +61,7 @@ in_filter f (x ∷ bs) b h = at (f x) refl h (in_filter f bs b)
     cases : f x ≡ true → (Contains (filter f bs) b → Contains bs b × (f b ≡ true)) → (x ≡ b) ⊎ Contains (filter f bs) b → Contains (x ∷ bs) b × (f b ≡ true)
     cases q r (inl e) = (subst (λ z. Contains (x ∷ bs) z) e (here x bs), subst (λ z. f z ≡ true) e q)
     cases q r (inr i) = let g : Contains bs b × (f b ≡ true) = r i in (there x b bs g.0, g.1)
+
     at : (c : Bool) → f x ≡ c → Contains (if c then x ∷ filter f bs else filter f bs) b → (Contains (filter f bs) b → Contains bs b × (f b ≡ true))
         → Contains (x ∷ bs) b × (f b ≡ true)
     at true q g r = cases q r (cons_cases x b (filter f bs) g)
@@ -199,6 +139,7 @@ real_lower W n p k e h = subst (λ o. is_lower (rank_of (Real n) o) (p + 1, k) �
     first : (o : ℕ) → o < p → (b : Bool) → is_lower (if b then (0, 2) else (o + 1, 2)) (p + 1, k) ≡ true
     first o l true = lower_first 0 (p + 1) 2 k (omega arith)
     first o l false = lower_first (o + 1) (p + 1) 2 k (omega arith)
+
     at : (h.parent.position ≡ base_position) ⊎ (h.parent.position < p) → is_lower (rank_of (Real n) h.parent.position) (p + 1, k) ≡ true
     at (inl q) = subst (λ r. is_lower r (p + 1, k) ≡ true) (sym (base_rank n h.parent.position q)) (lower_first 0 (p + 1) 2 k (omega arith))
     at (inr l) = first h.parent.position l (nat_eq h.parent.position base_position)
@@ -255,6 +196,7 @@ own_position p h = at (stands_before p p) refl
     never : (p ≡ base_position) ⊎ (p < p) → stands_before p p ≡ false
     never (inl e) = let l : p < base_position = h in absurd (omega (arith, e, l))
     never (inr l) = absurd (omega (arith, l))
+
     at : (b : Bool) → stands_before p p ≡ b → stands_before p p ≡ false
     at true q = never (before_cases p p q)
     at false q = q

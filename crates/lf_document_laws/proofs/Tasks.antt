@@ -44,7 +44,7 @@ use Rattle.lf_checker.specs.Checker.{height_of}
 use Rattle.lf_checker.specs.Structures as structures
 use Rattle.lf_checker.specs.Structures.{structure_of}
 use Rattle.lf_checker.specs.Admission.{view_with_type, add_inductive}
-use Rattle.lf_branch.specs.Branch.{Branch, Verdict, not_owned, reserved, by_there, by_suffix, verdict, with_constant}
+use Rattle.lf_branch.specs.Branch.{Branch, Verdict, not_owned, by_there, by_suffix, verdict}
 use Rattle.lf_extension_laws.specs.Needs.{IsWanted}
 use Rattle.lf_extension_laws.proofs.Only.{Only, Reads}
 use Rattle.lf_extension_laws.proofs.OnlyWhnf.{only_structure}
@@ -58,70 +58,24 @@ use Rattle.lf_elaboration.specs.Variables.{level_names}
 use Rattle.lf_elaboration_laws.specs.Keeping.{Grows}
 use Rattle.lf_elaboration_laws.proofs.Growing.{grows_same}
 use Rattle.lf_elaboration_laws.proofs.Keeping.{keeps_then}
-use Rattle.lf_elaboration_laws.proofs.KeepingItems.{Resolves}
 use Rattle.lf_elaboration_laws.proofs.RealizingWaits.{realizing_waits}
 use Rattle.lf_msg.specs.declared.naming.NamingError.TheVariants.{MismatchedEnd}
 use Rattle.lf_msg.specs.declared.diagnostic.Diagnostic.{Diagnostic}
 use Rattle.lf_msg.specs.declared.diagnostic.Diagnostic.TheVariants.{Naming, Syntax, UsesSorry}
 use Rattle.lf_document.specs.Diagnoses.{syntax_error}
-use Rattle.lf_document.specs.Task.{Log, nothing_told, Attempt, done, need, Task, Judged, Ended, go_on, gives, tells_if, judged, in_part}
-use Rattle.lf_document.specs.Setting.{
-  Setting,
-  Declaration,
-  declaration,
-  nesting,
-  most_levels,
-  most_levels_of_type,
-  part,
-  no_locals,
-  by_kernel,
-  of_groups,
-  taken_binders,
-}
-use Rattle.lf_document.specs.Naming.{if_named, if_taken}
+use Rattle.lf_document.specs.Task.{Log, nothing_told, Attempt, done, need, Task, Judged, gives, tells_if, judged, in_part}
+use Rattle.lf_document.specs.Setting.{Setting, Declaration, declaration, nesting, most_levels, most_levels_of_type, part, by_kernel, of_groups, taken_binders}
 use Rattle.lf_document.specs.Constants.{Valued, with_value, Header, Made, nothing_made, entries_made, is_marked, is_one_marked}
-use Rattle.lf_document.specs.Headers.{header_part, Stated, stated_for_value, header_of, constants_made, in_one_part, axiom_constants, axiom_head, definition_head}
+use Rattle.lf_document.specs.Headers.{header_part, Stated, stated_for_value, constants_made, in_one_part, axiom_constants, axiom_head, definition_head}
 use Rattle.lf_document.specs.Values.{height_read, value_or_sorry, warned, completed, written_value, whole_definition}
 use Rattle.lf_document.specs.Inductives.{own_part, with_family, declaring, Constructing, constructing, declared, family_type, whole_declaration, inductive_constants, inductive_head}
-use Rattle.lf_document.specs.StructureCommand.{
-  constructor_of_fields,
-  constructor_name,
-  recursor_name,
-  field_names,
-  all_fields,
-  unless_taken,
-  pushed_all,
-  with_definitions,
-  if_structure,
-  structure_constants,
-  structure_head,
-}
+use Rattle.lf_document.specs.StructureCommand.{constructor_of_fields, constructor_name, recursor_name, field_names, all_fields, pushed_all, with_definitions, if_structure, structure_constants, structure_head}
 use Rattle.lf_document.specs.EquationsBody.{equations_value}
 use Rattle.lf_document.specs.Helpers.{helper_name, helper_part, helper_header, with_helper, helpers}
 use Rattle.lf_document.specs.Queries.{told, query, variable_types, checked_term, reduced_term, axioms_of}
-use Rattle.lf_document.specs.Asking.{names_of, ask_for}
-use Rattle.lf_document.specs.TaskValue.{
-  Outcome,
-  has,
-  waits_for,
-  outcome,
-  with_asked,
-  task_value,
-  value_part,
-  untyped_head,
-  def_head,
-  head,
-  branch_of,
-  value_in,
-  with_helpers,
-  written_body,
-  equations_body,
-  body_of,
-  body,
-  real_outcome,
-}
-use Rattle.lf_document_laws.specs.Extension.{IsOwn}
-use Rattle.lf_document_laws.specs.Needs.{Grew, Lasts, OutcomeWaits, TasksLast, ValuesWait}
+use Rattle.lf_document.specs.Asking.{names_of}
+use Rattle.lf_document.specs.TaskValue.{outcome, task_value, value_part, untyped_head, def_head, head, branch_of, value_in, with_helpers, written_body, equations_body, body_of, body, real_outcome}
+use Rattle.lf_document_laws.specs.Needs.{Lasts, OutcomeWaits, TasksLast, ValuesWait}
 use Rattle.lf_document_laws.proofs.Wants.{Wants, reads_of, only_of, own_childless, type_childless, wants_pushed, wants_all}
 use Rattle.lf_document_laws.proofs.Pushed.{own_still}
 use Rattle.lf_document_laws.proofs.Asked.{only_height, only_inductive}

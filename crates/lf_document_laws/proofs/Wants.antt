@@ -1,7 +1,7 @@
 -- What a view needs, for such keys; and that a constant that is added to the view adds no need, where it isn't of an earlier command, or is of a
 -- kind that has no realizable names.
-use Rattle.std.proofs.Common.{◌≡◌, ℕ, Bool, true, false, ◌&&◌, if◌then◌else◌, List, [], ◌∷◌, ◌++◌, Option, Some, None, refl, sym, ap, subst, ◌∙◌}
-use Rattle.lf_core.specs.Term.{Path, Term}
+use Rattle.std.proofs.Common.{◌≡◌, ℕ, Bool, true, false, ◌&&◌, if◌then◌else◌, List, [], ◌∷◌, Option, Some, None, refl, sym, ap, ◌∙◌}
+use Rattle.lf_core.specs.Term.{Path}
 use Rattle.lf_core.specs.Same.{same_path}
 use Rattle.lf_core.specs.Suffix.{suffix_of, fits_kind}
 use Rattle.lf_core.specs.declared.suffix.Suffix.{Suffix}
@@ -10,36 +10,7 @@ use Rattle.lf_core.specs.declared.constant.ConstInfo.{ConstInfo}
 use Rattle.lf_core.specs.declared.constant.ConstKind.TheVariants.{Inductive}
 use Rattle.lf_core.specs.declared.constant.TaskKey.{TaskKey}
 use Rattle.lf_core.specs.declared.constant.TaskKey.TheVariants.{Head, Body, Real}
-use Rattle.lf_checker.specs.View.{
-  View,
-  Entry,
-  find_entry,
-  branch_over,
-  parent_of,
-  last_of,
-  stands_before,
-  found,
-  absent,
-  need_body,
-  need_real,
-  answer_of,
-  by_parent,
-  by_suffix,
-  by_branch,
-  by_entry,
-  lookup_of,
-  KnownBody,
-  value,
-  opaque,
-  unresolved,
-  body_of,
-  There,
-  there,
-  not_there,
-  not_known,
-  there_of,
-  pushed,
-}
+use Rattle.lf_checker.specs.View.{View, Entry, find_entry, branch_over, parent_of, last_of, stands_before, found, absent, need_real, by_parent, by_suffix, by_branch, by_entry, lookup_of, KnownBody, value, opaque, unresolved, body_of, There, there, not_there, not_known, there_of, pushed}
 use Rattle.lf_checker.specs.Run as checker
 use Rattle.lf_checker.specs.Calls.{Seen, known, unknown, missing, see}
 use Rattle.lf_extension_laws.specs.Needs.{IsWanted, Waits}
@@ -125,6 +96,7 @@ module _ (U : View) (c : ConstInfo) (p : ℕ) (h : Childless U c p) where
           let not : absent ≡ need_real = sym (own_is_absent n s) ∙ own in absurd (cc)
       none q false r =
           sym (as_before n s None) ∙ sym (ap (by_parent (pushed U c p) n s) (find_other U.entries entry (parent_of n) r ∙ q)) ∙ g
+
       at : (o : Option Entry) → find_entry U.entries (parent_of n) ≡ o → by_parent U n s o ≡ need_real
       at (Some d) q =
           sym (as_before n s (Some d)) ∙ sym (ap (by_parent (pushed U c p) n s) (find_first U.entries entry d (parent_of n) q ∙ q)) ∙ g
@@ -149,6 +121,7 @@ module _ (U : View) (c : ConstInfo) (p : ℕ) (h : Childless U c p) where
       none : (o : Option Entry) → by_entry (pushed U c p) n o ≡ need_real → by_entry U n None ≡ need_real
       none (Some e) k = absurd (cc)
       none None k = branch_before n (branch_over U.branches n) k
+
       at : (o : Option Entry) → find_entry U.entries n ≡ o → by_entry U n o ≡ need_real
       at (Some d) q =
           let there : found d.info ≡ need_real = sym (ap (by_entry (pushed U c p) n) (find_first U.entries entry d n q ∙ q)) ∙ g in absurd (cc)

@@ -1,5 +1,5 @@
 -- What tasks wait for, and that what they tell grows; and that what is waited for has a lower rank.
-use Rattle.std.specs.Prelude.{◌≡◌, ◌<◌, ℕ, true, Option, List, Contains}
+use Rattle.std.specs.Prelude.{◌≡◌, ◌<◌, ℕ, true, Option, Contains}
 use Rattle.lf_core.specs.Term.{Path}
 use Rattle.lf_core.specs.declared.constant.TaskKey.{TaskKey}
 use Rattle.lf_core.specs.declared.constant.TaskKey.TheVariants.{Head, Body, Real}

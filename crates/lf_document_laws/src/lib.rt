@@ -10,6 +10,7 @@ ghost use Rattle.lf_document_laws.specs.Extension.{
   ValuesExtend,
 };
 ghost use Rattle.lf_document_laws.specs.Needs.{NeedsHaveLowerRank, TasksLast, ValuesWait};
+
 use lf_resolution_laws::resolution_waits_for_the_view;
 
 /// What a head gives over a view it gives over each view that tells more, by the forms of commands.
