@@ -12,7 +12,7 @@ use Rattle.lf_syntax.specs.declared.leaf.Ident.{Ident}
 use Rattle.lf_syntax.specs.declared.pattern.Alternative.{Alternative}
 use Rattle.lf_syntax.specs.declared.pattern.Pattern.{Pattern}
 use Rattle.lf_syntax.specs.declared.pattern.Pattern.TheVariants.{Constructor, Zero, Successor}
-use Rattle.lf_checker.specs.View.{View, There, there, not_there, not_known, stands_before, there_of, pushed}
+use Rattle.lf_checker.specs.View.{View, There, there, not_there, not_known, there_of, pushed}
 use Rattle.lf_checker.specs.Calls.{Seen, known, unknown, missing, see}
 use Rattle.lf_checker.specs.Checker.{normalize}
 use Rattle.lf_extension_laws.proofs.Only.{
@@ -85,7 +85,7 @@ use Rattle.lf_document.specs.StructureCommand.{
   all_fields,
 }
 use Rattle.lf_document.specs.EquationsBody.{Resolved, constructor_of, resolved, on_outcome, compiles, type_seen, fields_opened, fields_for, first_of, close_locals, term_against, alternative_term, alternative_terms, bodies, with_props, cases_with, valued, compiled, by_argument, tested, equations_value}
-use Rattle.lf_document_laws.proofs.Wants.{Wants, reads_of, wants_pushed, own_childless}
+use Rattle.lf_document_laws.proofs.Wants.{Wants, reads_of, MayAdd}
 use Rattle.lf_document_laws.proofs.Asked.{only_open, only_pis, only_lambdas, only_argument, only_compile}
 use Rattle.lf_document_laws.proofs.Lasting.{
   steps,
@@ -122,11 +122,10 @@ module _ (Key : TaskKey → Type 0) (p : ℕ) (D : Declaration) (xs : Telescope)
   only_field U reads i f A u =
       search (only, only_pis Key, only_lambdas Key, only_header U Key reads nesting, only_decl U Key reads nesting) depth 16
 
-  only_fields : (fs : List Ident) (i : ℕ) (U : View) → Wants U Key → stands_before U.position p ≡ false → (T : Term) (u : ℕ)
+  only_fields : (fs : List Ident) (i : ℕ) (U : View) → Wants U Key → MayAdd Key U.position p → (T : Term) (u : ℕ)
       → Only true Key (field_definitions p D xs i fs U T u)
-  only_fields [] i U w own T u = tt
-  only_fields (f ∷ fs) i U w own T u =
-      at (as_pi T) (λ c B v. only_fields fs (suc i) (pushed U c p) (wants_pushed U c p (own_childless U c p own) Key w) own B v)
+  only_fields [] i U w may T u = tt
+  only_fields (f ∷ fs) i U w may T u = at (as_pi T) (λ c B v. only_fields fs (suc i) (pushed U c p) (may U refl c w) may B v)
     where
       at : (o : Option Binding)
           → ((c : ConstInfo) (B : Term) (v : ℕ) → Only true Key (field_definitions p D xs (suc i) fs (pushed U c p) B v))
@@ -134,11 +133,11 @@ module _ (Key : TaskKey → Type 0) (p : ℕ) (D : Declaration) (xs : Telescope)
       at (Some b) rest = search (only, only_field U (reads_of U Key w), rest) depth 14
       at None rest = tt
 
-pub only_all_fields : (Key : TaskKey → Type 0) (p : ℕ) (D : Declaration) (kind : BinderKind) (U : View) → Wants U Key → stands_before U.position p ≡ false
+pub only_all_fields : (Key : TaskKey → Type 0) (p : ℕ) (D : Declaration) (kind : BinderKind) (U : View) → Wants U Key → MayAdd Key U.position p
     → (fs : List Ident) (T : Term) (u : ℕ) → Only true Key (all_fields kind U p D fs T u)
-only_all_fields Key p D kind U w own fs T u =
+only_all_fields Key p D kind U w may fs T u =
     only_then true Key (open_pis (length D.binders) [] T u) _ (only_open Key (length D.binders) [] T u)
-    (λ o v. only_fields Key p D (with_self kind D o.locals) fs 0 U w own o.rest v)
+    (λ o v. only_fields Key p D (with_self kind D o.locals) fs 0 U w may o.rest v)
 
 -- ---- The names of the fields
 

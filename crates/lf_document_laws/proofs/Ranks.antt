@@ -3,6 +3,7 @@ use Rattle.std.proofs.Common.{◌≡◌, ◌<◌, ◌≤◌, ◌⊎◌, inl, inr
 use Rattle.std.proofs.lemmas.Bool.{lt-ltb, ltb-true, eqb-true, eqb-false, eq-eqb}
 use Rattle.std.proofs.Math.Nat.{eq-or-lt_of_le}
 use Rattle.lf_core.specs.Term.{Path}
+use Rattle.lf_core.specs.Same.{same_path}
 use Rattle.lf_core.specs.Suffix.{suffix_of, fits_kind}
 use Rattle.lf_core.specs.declared.suffix.Suffix.{Suffix}
 use Rattle.lf_core.specs.declared.constant.TaskKey.{TaskKey}
@@ -11,10 +12,11 @@ use Rattle.lf_checker.specs.View.{View, Entry, OpenBranch, base_position, stands
 use Rattle.lf_extension_laws.specs.Needs.{IsWanted}
 use Rattle.lf_resolution_laws.specs.Needs.{ResolutionWaits}
 use Rattle.lf_elaboration_laws.proofs.Reached.{cons_cases, here, there, none_in}
-use Rattle.lf_document.specs.TaskValue.{Outcome, has, waits_for, head_value, body_value, real_value}
+use Rattle.lf_document.specs.TaskValue.{Outcome, has, waits_for, real_value}
 use Rattle.lf_document.specs.Rank.{rank_of, is_lower}
 use Rattle.lf_document_laws.specs.Needs.{OutcomeWaits, OfCommands, ComesBefore, at_position, NeedsHaveLowerRank}
-use Rattle.lf_document_laws.proofs.Tasks.{values_wait}
+use Rattle.lf_document_laws.proofs.Wants.{Wants, MayAdd}
+use Rattle.lf_document_laws.proofs.Tasks.{head_waits, body_waits, real_value_waits}
 
 -- ---- Tests of numbers
 
@@ -132,22 +134,50 @@ base_rank : (n : Path) (o : ℕ) → o ≡ base_position → rank_of (Real n) o 
 base_rank n o h = ap (λ b. if b then (0, 2) else (o + 1, 2)) (eq-eqb o base_position h)
 
 -- Of the base, or of a command before: below the ranks of each command from there on.
-real_lower : (W : View) (n : Path) (p k : ℕ) → W.position ≡ p → HasParent W n → ComesBefore W (p + 1, k) (Real n)
-real_lower W n p k e h = subst (λ o. is_lower (rank_of (Real n) o) (p + 1, k) ≡ true) (sym (origin_is W n h))
-    (at (before_cases p h.parent.position (subst (λ i. stands_before i h.parent.position ≡ true) e h.before)))
+origin_lower : (p k o : ℕ) (n : Path) → stands_before p o ≡ true → is_lower (rank_of (Real n) o) (p + 1, k) ≡ true
+origin_lower p k o n h = at (before_cases p o h)
   where
-    first : (o : ℕ) → o < p → (b : Bool) → is_lower (if b then (0, 2) else (o + 1, 2)) (p + 1, k) ≡ true
-    first o l true = lower_first 0 (p + 1) 2 k (omega arith)
-    first o l false = lower_first (o + 1) (p + 1) 2 k (omega arith)
+    later : o < p → (b : Bool) → is_lower (if b then (0, 2) else (o + 1, 2)) (p + 1, k) ≡ true
+    later l true = lower_first 0 (p + 1) 2 k (omega arith)
+    later l false = lower_first (o + 1) (p + 1) 2 k (omega arith)
 
-    at : (h.parent.position ≡ base_position) ⊎ (h.parent.position < p) → is_lower (rank_of (Real n) h.parent.position) (p + 1, k) ≡ true
-    at (inl q) = subst (λ r. is_lower r (p + 1, k) ≡ true) (sym (base_rank n h.parent.position q)) (lower_first 0 (p + 1) 2 k (omega arith))
-    at (inr l) = first h.parent.position l (nat_eq h.parent.position base_position)
+    at : (o ≡ base_position) ⊎ (o < p) → is_lower (rank_of (Real n) o) (p + 1, k) ≡ true
+    at (inl q) = subst (λ r. is_lower r (p + 1, k) ≡ true) (sym (base_rank n o q)) (lower_first 0 (p + 1) 2 k (omega arith))
+    at (inr l) = later l (nat_eq o base_position)
 
-command_before : (V : View) → OfCommands V → (p k : ℕ) (n : TaskKey) → IsWanted (view_at V p) n → ComesBefore (view_at V p) (p + 1, k) n
+-- What is found before a position stands before it.
+found_before : (p : ℕ) (es : List Entry) (m : Path) (d : Entry) → find_entry (entries_before p es) m ≡ Some d → stands_before p d.position ≡ true
+found_before p [] m d h = absurd (cc)
+found_before p (e ∷ es) m d h = at (stands_before p e.position) refl h (found_before p es m d)
+  where
+    named : stands_before p e.position ≡ true → (find_entry (entries_before p es) m ≡ Some d → stands_before p d.position ≡ true) → (c : Bool)
+        → (if c then Some e else find_entry (entries_before p es) m) ≡ Some d → stands_before p d.position ≡ true
+    named q r true g = let same : e ≡ d = cc in subst (λ x. stands_before p x.position ≡ true) same q
+    named q r false g = r g
+
+    at : (b : Bool) → stands_before p e.position ≡ b → find_entry (if b then e ∷ entries_before p es else entries_before p es) m ≡ Some d
+        → (find_entry (entries_before p es) m ≡ Some d → stands_before p d.position ≡ true) → stands_before p d.position ≡ true
+    at true q g r = named q r (same_path e.info.name m) g
+    at false q g r = r g
+
+-- So a realized constant comes before a command whatever its name: its parent stands before, or isn't there.
+real_before_command : (V : View) (p k : ℕ) (n : Path) → ComesBefore (view_at V p) (p + 1, k) (Real n)
+real_before_command V p k n = at (find_entry (entries_before p V.entries) (parent_of n)) refl
+  where
+    at : (o : Option Entry) → find_entry (entries_before p V.entries) (parent_of n) ≡ o → is_lower (rank_of (Real n) (position_of o)) (p + 1, k) ≡ true
+    at (Some d) q = origin_lower p k d.position n (found_before p V.entries (parent_of n) d q)
+    at None q = origin_lower p k base_position n refl
+
+command_before : (V : View) → OfCommands V → (p k : ℕ) → Wants (view_at V p) (ComesBefore (view_at V p) (p + 1, k))
 command_before V of p k (Head i) h = absurd h
 command_before V of p k (Body q) h = let l : q < p = earlier V of p q h in lower_first (q + 1) (p + 1) 1 k (omega arith)
-command_before V of p k (Real n) h = real_lower (view_at V p) n p k refl (has_parent (view_at V p) n h)
+command_before V of p k (Real n) h = real_before_command V p k n
+
+-- Constants that are added open no branch.
+command_may : (V : View) (p k limit at : ℕ) → MayAdd (ComesBefore (view_at V p) (p + 1, k)) limit at
+command_may V p k limit at W e c w (Head i) h = absurd h
+command_may V p k limit at W e c w (Body q) h = w (Body q) h
+command_may V p k limit at W e c w (Real n) h = real_before_command V p k n
 
 -- Where the realized constants of the base are made nothing is needed.
 abbrev base_view_of : View → View
@@ -172,7 +202,10 @@ of_command : (V : View) → OfCommands V → (origin : ℕ) (k : TaskKey) → Is
     → ComesBefore (command_view_of V origin) (origin + 1, 2) k
 of_command V of origin (Head i) h = absurd h
 of_command V of origin (Body q) h = let l : q < suc origin = earlier V of (suc origin) q h in lower_body q origin (omega arith)
-of_command V of origin (Real n) h = real_lower (command_view_of V origin) n origin 2 refl (has_parent (command_view_of V origin) n h)
+of_command V of origin (Real n) h =
+    let g : HasParent (command_view_of V origin) n = has_parent (command_view_of V origin) n h in
+    subst (λ o. is_lower (rank_of (Real n) o) (origin + 1, 2) ≡ true) (sym (origin_is (command_view_of V origin) n g))
+    (origin_lower origin 2 g.parent.position n g.before)
 
 real_before : (V : View) → OfCommands V → (origin : ℕ) (n : Path) (k : TaskKey) → IsWanted (view_real_at V origin) k
     → ComesBefore (view_real_at V origin) (rank_of (Real n) origin) k
@@ -189,26 +222,12 @@ outcome_before : (Key Rank : TaskKey → Type 0) → ((k : TaskKey) → Key k �
 outcome_before Key Rank f (has v) h = tt
 outcome_before Key Rank f (waits_for k) h = f k h
 
--- A command's position isn't an earlier one for its own view.
-own_position : (p : ℕ) → p < base_position → stands_before p p ≡ false
-own_position p h = at (stands_before p p) refl
-  where
-    never : (p ≡ base_position) ⊎ (p < p) → stands_before p p ≡ false
-    never (inl e) = let l : p < base_position = h in absurd (omega (arith, e, l))
-    never (inr l) = absurd (omega (arith, l))
-
-    at : (b : Bool) → stands_before p p ≡ b → stands_before p p ≡ false
-    at true q = never (before_cases p p q)
-    at false q = q
-
 pub needs_lower : ResolutionWaits → NeedsHaveLowerRank
 needs_lower res = record {
-  heads = λ V of s p budget l c.
-      outcome_before _ _ (command_before V of p 0) (head_value (at_position V s p budget) c)
-      ((values_wait res).heads (at_position V s p budget) (own_position p l) c);
-  bodies = λ V of s p budget l c h.
-      outcome_before _ _ (command_before V of p 1) (body_value (at_position V s p budget) c h)
-      ((values_wait res).bodies (at_position V s p budget) (own_position p l) c h);
+  heads = λ V of s p budget c.
+      head_waits res (ComesBefore (view_at V p) (p + 1, 0)) (at_position V s p budget) (command_before V of p 0) (command_may V p 0 p p) c;
+  bodies = λ V of s p budget c h.
+      body_waits res (ComesBefore (view_at V p) (p + 1, 1)) (at_position V s p budget) (command_before V of p 1) (command_may V p 1 p p) c h;
   reals = λ V of origin units n.
-      outcome_before _ _ (real_before V of origin n) (real_value (view_real_at V origin) units n) ((values_wait res).reals (view_real_at V origin) units n);
+      outcome_before _ _ (real_before V of origin n) (real_value (view_real_at V origin) units n) (real_value_waits (view_real_at V origin) units n);
 }

@@ -38,7 +38,7 @@ use Rattle.lf_syntax.specs.declared.command.Command.TheVariants.{
   PrintAxioms,
   Bad,
 }
-use Rattle.lf_checker.specs.View.{View, is_child, last_of, there_of, stands_before}
+use Rattle.lf_checker.specs.View.{View, is_child, last_of, there_of}
 use Rattle.lf_checker.specs.Run as checker
 use Rattle.lf_checker.specs.Checker.{height_of}
 use Rattle.lf_checker.specs.Structures as structures
@@ -74,10 +74,28 @@ use Rattle.lf_document.specs.EquationsBody.{equations_value}
 use Rattle.lf_document.specs.Helpers.{helper_name, helper_part, helper_header, with_helper, helpers}
 use Rattle.lf_document.specs.Queries.{told, query, variable_types, checked_term, reduced_term, axioms_of}
 use Rattle.lf_document.specs.Asking.{names_of}
-use Rattle.lf_document.specs.TaskValue.{outcome, task_value, value_part, untyped_head, def_head, head, branch_of, value_in, with_helpers, written_body, equations_body, body_of, body, real_outcome}
+use Rattle.lf_document.specs.TaskValue.{
+  outcome,
+  task_value,
+  value_part,
+  untyped_head,
+  def_head,
+  head,
+  head_value,
+  branch_of,
+  value_in,
+  with_helpers,
+  written_body,
+  equations_body,
+  body_of,
+  body,
+  body_value,
+  real_outcome,
+  real_value,
+}
+use Rattle.lf_document_laws.specs.Extension.{IsOwn}
 use Rattle.lf_document_laws.specs.Needs.{Lasts, OutcomeWaits, TasksLast, ValuesWait}
-use Rattle.lf_document_laws.proofs.Wants.{Wants, reads_of, only_of, own_childless, type_childless, wants_pushed, wants_all}
-use Rattle.lf_document_laws.proofs.Pushed.{own_still}
+use Rattle.lf_document_laws.proofs.Wants.{Wants, reads_of, only_of, type_childless, wants_pushed, MayAdd, own_may, wants_all, may_still}
 use Rattle.lf_document_laws.proofs.Asked.{only_height, only_inductive}
 use Rattle.lf_document_laws.proofs.Lasting.{steps, On, on_judged, on_kernel, on_stated_for_value, on_axiom, on_written_value, on_whole_definition}
 use Rattle.lf_document_laws.proofs.LastingCommands.{
@@ -175,9 +193,9 @@ module _ (res : ResolutionWaits) (Key : TaskKey → Type 0) where
 
     -- ---- Structures
 
-    module _ (own : stands_before X.view.position X.position ≡ false) where
+    module _ (may : MayAdd Key X.view.position X.position) where
       added : (cs : List ConstInfo) → Wants (pushed_all X.view cs X.position) Key
-      added cs = wants_all cs X.view X.position own Key w
+      added cs = wants_all Key cs X.view X.position may w
 
       on_definitions : (kind : BinderKind) (D : Declaration) (fs : List Ident) (cs : List ConstInfo) (T : Term) (u : ℕ) (s : State)
           → On Key s (with_definitions X kind D fs cs T u s)
@@ -185,7 +203,7 @@ module _ (res : ResolutionWaits) (Key : TaskKey → Type 0) where
           on_unless_taken Key X.view reads D (constructor_name D ∷ recursor_name D ∷ []) fs _ u s
           (keeps_then Grows Grows Key steps s _ _
           (on_kernel Key (own_part X D) reads found (all_fields kind (pushed_all X.view cs X.position) X.position D fs T) u s
-          (only_all_fields Key X.position D kind (pushed_all X.view cs X.position) (added cs) (own_still cs X.view X.position own) fs T u))
+          (only_all_fields Key X.position D kind (pushed_all X.view cs X.position) (added cs) (may_still Key cs X.view X.position may) fs T u))
           (λ ds v z. grows_same z))
 
       on_if_structure : (kind : BinderKind) (D : Declaration) (fs : List Ident) (cs : List ConstInfo) (o : Option structures.Structure) (u : ℕ) (s : State)
@@ -223,35 +241,35 @@ module _ (res : ResolutionWaits) (Key : TaskKey → Type 0) where
     lasts_def D v (Some t) g = lasts_header DefKind D g
     lasts_def D v None g = lasts_untyped D v g
 
-    lasts_head : stands_before X.view.position X.position ≡ false → (c : Command) (g : Log) → Lasts Key g (head X c g)
-    lasts_head own (Axiom d) g = lasts_axiom (declaration X.scope (Axiom d) d) g
-    lasts_head own (Def d v hs) g = lasts_def (declaration X.scope (Def d v hs) d) v d.ty g
-    lasts_head own (Equations d alts) g = lasts_header DefKind (declaration X.scope (Equations d alts) d) g
-    lasts_head own (Theorem d v hs) g = lasts_header TheoremKind (declaration X.scope (Theorem d v hs) d) g
-    lasts_head own (Inductive d ks) g = lasts_inductive (declaration X.scope (Inductive d ks) d) ks g
-    lasts_head own (Structure d fs) g = lasts_structure own Explicit (declaration X.scope (Structure d fs) d) fs g
-    lasts_head own (Class d fs) g = lasts_structure own Inst (declaration X.scope (Class d fs) d) fs g
-    lasts_head own (Instance d v) g = lasts_header DefKind (declaration X.scope (Instance d v) d) g
-    lasts_head own (Namespace at n) g = grew_same g
-    lasts_head own (Section at n) g = grew_same g
-    lasts_head own (End at n) g =
+    lasts_head : MayAdd Key X.view.position X.position → (c : Command) (g : Log) → Lasts Key g (head X c g)
+    lasts_head may (Axiom d) g = lasts_axiom (declaration X.scope (Axiom d) d) g
+    lasts_head may (Def d v hs) g = lasts_def (declaration X.scope (Def d v hs) d) v d.ty g
+    lasts_head may (Equations d alts) g = lasts_header DefKind (declaration X.scope (Equations d alts) d) g
+    lasts_head may (Theorem d v hs) g = lasts_header TheoremKind (declaration X.scope (Theorem d v hs) d) g
+    lasts_head may (Inductive d ks) g = lasts_inductive (declaration X.scope (Inductive d ks) d) ks g
+    lasts_head may (Structure d fs) g = lasts_structure may Explicit (declaration X.scope (Structure d fs) d) fs g
+    lasts_head may (Class d fs) g = lasts_structure may Inst (declaration X.scope (Class d fs) d) fs g
+    lasts_head may (Instance d v) g = lasts_header DefKind (declaration X.scope (Instance d v) d) g
+    lasts_head may (Namespace at n) g = grew_same g
+    lasts_head may (Section at n) g = grew_same g
+    lasts_head may (End at n) g =
         lasts_then Key g (tells_if (is_mismatched_end X.scope (End at n)) at (Naming MismatchedEnd) g) (λ y. gives nothing_made)
         (lasts_tells_if Key (is_mismatched_end X.scope (End at n)) at (Naming MismatchedEnd) g) (λ y l. grew_same l)
-    lasts_head own (OpenNames at ns) g = grew_same g
-    lasts_head own (Universe at ns) g = grew_same g
-    lasts_head own (Variable at bs) g =
+    lasts_head may (OpenNames at ns) g = grew_same g
+    lasts_head may (Universe at ns) g = grew_same g
+    lasts_head may (Variable at bs) g =
         lasts_query at (level_names X.scope [] (Variable at bs)) (variable_types (taken_binders X.scope (Variable at bs) ++ of_groups bs))
         (on_variable Key (part X X.view (level_names X.scope [] (Variable at bs)) None at) reads found
         (taken_binders X.scope (Variable at bs) ++ of_groups bs)) g
-    lasts_head own (Check at t) g =
+    lasts_head may (Check at t) g =
         lasts_query at (level_names X.scope [] (Check at t)) (checked_term (taken_binders X.scope (Check at t)) t)
         (on_checked Key (part X X.view (level_names X.scope [] (Check at t)) None at) reads found (taken_binders X.scope (Check at t)) t) g
-    lasts_head own (Reduce at t) g =
+    lasts_head may (Reduce at t) g =
         lasts_query at (level_names X.scope [] (Reduce at t)) (reduced_term (taken_binders X.scope (Reduce at t)) t)
         (on_reduced Key (part X X.view (level_names X.scope [] (Reduce at t)) None at) reads found (taken_binders X.scope (Reduce at t)) t) g
-    lasts_head own (PrintAxioms at n) g =
+    lasts_head may (PrintAxioms at n) g =
         lasts_query at [] (axioms_of n) (on_axioms Key (part X X.view [] None at) reads found w n) g
-    lasts_head own (Bad at f) g = lasts_tells Key at (Syntax (syntax_error f)) g
+    lasts_head may (Bad at f) g = lasts_tells Key at (Syntax (syntax_error f)) g
 
   -- ---- Bodies, over views with more constants of the command
 
@@ -276,9 +294,9 @@ module _ (res : ResolutionWaits) (Key : TaskKey → Type 0) where
       (λ v j. lasts_then Key j (warned at (h.erred || r.erred) (with_value h.info v) j) (λ y. gives v)
       (lasts_tells_if Key (is_marked (with_value h.info v) && not (h.erred || r.erred)) at UsesSorry j) (λ y i. grew_same i)))
 
-  -- A branch that needs such keys, at a position that isn't an earlier one.
+  -- A branch that needs such keys, to which constants may be added.
   abbrev Open : Branch → Type 0
-  Open b = Wants b.view Key × (stands_before b.view.position b.position ≡ false)
+  Open b = Wants b.view Key × MayAdd Key b.view.position b.position
 
   suffix_in : (o : Option Suffix) (v : Verdict) → VerdictIn Key v → VerdictIn Key (by_suffix o v)
   suffix_in (Some s) v h = tt
@@ -311,7 +329,7 @@ module _ (res : ResolutionWaits) (Key : TaskKey → Type 0) where
         with_then Key Open g _ _
         (lasts_completed X b.view o.0 x.name.at k (written_value P k.info (length (of_groups x.binders)) x.value)
         (on_written_value Key P (reads_of b.view Key o.0) (resolving b.view o.0 X.scope) k.info (length (of_groups x.binders)) x.value) g)
-        (λ v l. ((wants_pushed b.view (with_value k.info v) b.position (own_childless b.view (with_value k.info v) b.position o.1) Key o.0, o.1), grew_same l))
+        (λ v l. ((o.1 b.view refl (with_value k.info v) o.0, o.1), grew_same l))
 
     lasts_helpers : (xs : List Helper) (b : Branch) → Open b → (g : Log) → LastsWith Key Open g (helpers X h b xs g)
     lasts_helpers [] b o g = (o, grew_same g)
@@ -348,15 +366,18 @@ module _ (res : ResolutionWaits) (Key : TaskKey → Type 0) where
     lasts_body_of o (Instance d v) g = lasts_written o (declaration X.scope (Instance d v) d) v [] g
     lasts_body_of o _ g = grew_same g
 
-  lasts_body : (X : Setting) → Wants X.view Key → stands_before X.view.position X.position ≡ false → (c : Command) (h : Option Header) (g : Log)
+  lasts_body : (X : Setting) → Wants X.view Key → MayAdd Key X.view.position X.position → (c : Command) (h : Option Header) (g : Log)
       → Lasts Key g (body X c h g)
-  lasts_body X w own c (Some h) g = lasts_body_of X h (w, own) c g
-  lasts_body X w own c None g = grew_same g
+  lasts_body X w may c (Some h) g = lasts_body_of X h (w, may) c g
+  lasts_body X w may c None g = grew_same g
+
+own_adds : (X : Setting) → IsOwn X → MayAdd (IsWanted X.view) X.view.position X.position
+own_adds X own = own_may (IsWanted X.view) X.view.position X.position own
 
 pub tasks_last : ResolutionWaits → TasksLast
 tasks_last res = record {
-  heads = λ X own c g. lasts_head res (IsWanted X.view) X (λ k h. h) own c g;
-  bodies = λ X own c h g. lasts_body res (IsWanted X.view) X (λ k i. i) own c h g;
+  heads = λ X own c g. lasts_head res (IsWanted X.view) X (λ k h. h) (own_adds X own) c g;
+  bodies = λ X own c h g. lasts_body res (IsWanted X.view) X (λ k i. i) (own_adds X own) c h g;
 }
 
 -- ---- Values
@@ -365,20 +386,30 @@ outcome_waits : (Key : TaskKey → Type 0) (g : Log) (o : Attempt Made) → Last
 outcome_waits Key g (done m l) h = tt
 outcome_waits Key g (need k) h = h
 
-value_waits : (V : View) (t : Task Made) → ((g : Log) → Lasts (IsWanted V) g (t g)) → OutcomeWaits (IsWanted V) (task_value V t)
-value_waits V t h =
-    outcome_waits (IsWanted V) nothing_told _
-    (lasts_then (IsWanted V) nothing_told _ _ (h nothing_told)
-    (λ m l. lasts_then (IsWanted V) l _ _ (lasts_ask_all (IsWanted V) V (reads_of V (IsWanted V) (λ k i. i)) (names_of m) l) (λ y j. grew_same j)))
+value_waits : (Key : TaskKey → Type 0) (V : View) → Wants V Key → (t : Task Made) → ((g : Log) → Lasts Key g (t g)) → OutcomeWaits Key (task_value V t)
+value_waits Key V w t h =
+    outcome_waits Key nothing_told _
+    (lasts_then Key nothing_told _ _ (h nothing_told)
+    (λ m l. lasts_then Key l _ _ (lasts_ask_all Key V (reads_of V Key w) (names_of m) l) (λ y j. grew_same j)))
 
 real_waits : (V : View) (r : Realized) → ((k : TaskKey) → r ≡ waits k → IsWanted V k) → OutcomeWaits (IsWanted V) (real_outcome r)
 real_waits V (makes c) h = tt
 real_waits V makes_none h = tt
 real_waits V (waits k) h = h k refl
 
+pub real_value_waits : (V : View) (units : ℕ) (n : Path) → OutcomeWaits (IsWanted V) (real_value V units n)
+real_value_waits V units n = real_waits V (realize V units nesting n) (realizing_waits V units nesting n)
+
+module _ (res : ResolutionWaits) (Key : TaskKey → Type 0) (X : Setting) (w : Wants X.view Key) (may : MayAdd Key X.view.position X.position) where
+  pub head_waits : (c : Command) → OutcomeWaits Key (head_value X c)
+  head_waits c = value_waits Key X.view w (head X c) (λ g. lasts_head res Key X w may c g)
+
+  pub body_waits : (c : Command) (h : Option Header) → OutcomeWaits Key (body_value X c h)
+  body_waits c h = value_waits Key X.view w (body X c h) (λ g. lasts_body res Key X w may c h g)
+
 pub values_wait : ResolutionWaits → ValuesWait
 values_wait res = record {
-  heads = λ X own c. value_waits X.view (head X c) ((tasks_last res).heads X own c);
-  bodies = λ X own c h. value_waits X.view (body X c h) ((tasks_last res).bodies X own c h);
-  reals = λ V units n. real_waits V (realize V units nesting n) (realizing_waits V units nesting n);
+  heads = λ X own c. head_waits res (IsWanted X.view) X (λ k h. h) (own_adds X own) c;
+  bodies = λ X own c h. body_waits res (IsWanted X.view) X (λ k i. i) (own_adds X own) c h;
+  reals = real_value_waits;
 }

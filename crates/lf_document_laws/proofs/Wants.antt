@@ -1,6 +1,6 @@
 -- What a view needs, for such keys; and that a constant that is added to the view adds no need, where it isn't of an earlier command, or is of a
 -- kind that has no realizable names.
-use Rattle.std.proofs.Common.{◌≡◌, ℕ, Bool, true, false, ◌&&◌, if◌then◌else◌, List, [], ◌∷◌, Option, Some, None, refl, sym, ap, ◌∙◌}
+use Rattle.std.proofs.Common.{◌≡◌, ℕ, Bool, true, false, ◌&&◌, if◌then◌else◌, List, [], ◌∷◌, Option, Some, None, refl, sym, ap, subst, ◌∙◌}
 use Rattle.lf_core.specs.Term.{Path}
 use Rattle.lf_core.specs.Same.{same_path}
 use Rattle.lf_core.specs.Suffix.{suffix_of, fits_kind}
@@ -132,7 +132,18 @@ module _ (U : View) (c : ConstInfo) (p : ℕ) (h : Childless U c p) where
   wants_pushed Key w (Body i) g = w (Body i) g
   wants_pushed Key w (Real n) g = w (Real n) (lookup_before n g)
 
-pub wants_all : (cs : List ConstInfo) (U : View) (p : ℕ) → stands_before U.position p ≡ false → (Key : TaskKey → Type 0) → Wants U Key
-    → Wants (pushed_all U cs p) Key
-wants_all [] U p own Key w = w
-wants_all (c ∷ cs) U p own Key w = wants_all cs (pushed U c p) p own Key (wants_pushed U c p (own_childless U c p own) Key w)
+-- Constants may be added at a position, to each view of such a position of its own.
+abbrev pub MayAdd : (TaskKey → Type 0) → ℕ → ℕ → Type 0
+MayAdd Key limit p = (W : View) → W.position ≡ limit → (c : ConstInfo) → Wants W Key → Wants (pushed W c p) Key
+
+-- Where they aren't of an earlier command.
+pub own_may : (Key : TaskKey → Type 0) (limit p : ℕ) → stands_before limit p ≡ false → MayAdd Key limit p
+own_may Key limit p own W e c w = wants_pushed W c p (own_childless W c p (subst (λ i. stands_before i p ≡ false) (sym e) own)) Key w
+
+pub wants_all : (Key : TaskKey → Type 0) (cs : List ConstInfo) (U : View) (p : ℕ) → MayAdd Key U.position p → Wants U Key → Wants (pushed_all U cs p) Key
+wants_all Key [] U p may w = w
+wants_all Key (c ∷ cs) U p may w = wants_all Key cs (pushed U c p) p may (may U refl c w)
+
+pub may_still : (Key : TaskKey → Type 0) (cs : List ConstInfo) (U : View) (p : ℕ) → MayAdd Key U.position p → MayAdd Key (pushed_all U cs p).position p
+may_still Key [] U p may = may
+may_still Key (c ∷ cs) U p may = may_still Key cs (pushed U c p) p may

@@ -1,5 +1,5 @@
 -- What tasks wait for, and that what they tell grows; and that what is waited for has a lower rank.
-use Rattle.std.specs.Prelude.{◌≡◌, ◌<◌, ℕ, true, Option, Contains}
+use Rattle.std.specs.Prelude.{◌≡◌, ℕ, true, Option, Contains}
 use Rattle.lf_core.specs.Term.{Path}
 use Rattle.lf_core.specs.declared.constant.TaskKey.{TaskKey}
 use Rattle.lf_core.specs.declared.constant.TaskKey.TheVariants.{Head, Body, Real}
@@ -61,9 +61,9 @@ abbrev pub at_position : View → Scope → ℕ → ℕ → Setting
 at_position V s p budget = record { view = view_at V p; scope = s; position = p; budget = budget }
 
 pub record NeedsHaveLowerRank : Type 0 where
-  pub heads : (V : View) → OfCommands V → (s : Scope) (p budget : ℕ) → p < base_position → (c : Command)
+  pub heads : (V : View) → OfCommands V → (s : Scope) (p budget : ℕ) (c : Command)
       → OutcomeWaits (ComesBefore (view_at V p) (rank_of (Head p) 0)) (head_value (at_position V s p budget) c)
-  pub bodies : (V : View) → OfCommands V → (s : Scope) (p budget : ℕ) → p < base_position → (c : Command) (h : Option Header)
+  pub bodies : (V : View) → OfCommands V → (s : Scope) (p budget : ℕ) (c : Command) (h : Option Header)
       → OutcomeWaits (ComesBefore (view_at V p) (rank_of (Body p) 0)) (body_value (at_position V s p budget) c h)
   -- of a realized constant whose parent is of the base, or of the command at this position
   pub reals : (V : View) → OfCommands V → (origin units : ℕ) (n : Path)
