@@ -16,7 +16,21 @@ use Rattle.lf_elaboration_laws.proofs.Kept.{kept_self, kept_then, kept_choose, k
 use Rattle.lf_elaboration_laws.proofs.Parts as parts
 use Rattle.lf_elaboration_laws.proofs.Parts.{kept_close}
 use Rattle.lf_document.specs.Setting.{Setting, nesting, part, calls_of}
-use Rattle.lf_document.specs.EquationsBody.{Resolved, cases_with, fields_for, term_against, alternative_term, alternative_terms, bodies, with_props, valued, compiled, by_argument, tested, equations_value}
+use Rattle.lf_document.specs.EquationsBody.{
+  Resolved,
+  cases_with,
+  fields_for,
+  term_against,
+  alternative_term,
+  alternative_terms,
+  bodies,
+  with_props,
+  valued,
+  compiled,
+  by_argument,
+  tested,
+  equations_value,
+}
 use Rattle.lf_document_laws.proofs.Parts.{both, kept_accepted}
 use Rattle.lf_document_laws.proofs.Equations.{kept_resolved, kept_compiles, kept_fields_for, kept_close_locals}
 

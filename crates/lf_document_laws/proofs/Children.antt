@@ -1,11 +1,52 @@
 -- A branch that is open for a name shows in what is looked up: a child that is no entry waits for it. So where a view tells more than another,
 -- and no branch is open for a name in the other, none is in the view.
-use Rattle.std.proofs.Common.{◌≡◌, ℕ, ◌+◌, ◌<◌, ◌≤◌, Bool, true, false, if◌then◌else◌, List, [], ◌∷◌, ◌++◌, length, Option, Some, None, refl, sym, ap, subst, ◌∙◌, arith, length-append}
+use Rattle.std.proofs.Common.{
+  ◌≡◌,
+  ℕ,
+  ◌+◌,
+  ◌<◌,
+  ◌≤◌,
+  Bool,
+  true,
+  false,
+  if◌then◌else◌,
+  List,
+  [],
+  ◌∷◌,
+  ◌++◌,
+  length,
+  Option,
+  Some,
+  None,
+  refl,
+  sym,
+  ap,
+  subst,
+  ◌∙◌,
+  arith,
+  length-append,
+}
 use Rattle.lf_core.specs.Term.{Path}
 use Rattle.lf_core.specs.Same.{same_path}
 use Rattle.lf_core.specs.Suffix.{suffix_of, equation_of}
 use Rattle.lf_name.proofs.Names.{path_is}
-use Rattle.lf_checker.specs.View.{View, Entry, OpenBranch, find_entry, find_branch, branch_over, is_child, parent_of, last_of, absent, need_body, by_suffix, by_branch, by_entry, lookup_of}
+use Rattle.lf_checker.specs.View.{
+  View,
+  Entry,
+  OpenBranch,
+  find_entry,
+  find_branch,
+  branch_over,
+  is_child,
+  parent_of,
+  last_of,
+  absent,
+  need_body,
+  by_suffix,
+  by_branch,
+  by_entry,
+  lookup_of,
+}
 use Rattle.lf_checker.specs.Extends.{SameLookup, Tells}
 
 -- ---- A name and one part more

@@ -136,7 +136,7 @@ module _ (Key : TaskKey → Type 0) (P : Part) (reads : Reads P.view Key) (resol
       on_under_pi over L (as_pi T) (under_pis P (calls_of P) over f n) (λ M B v z. on_under_pis over f h n M B v z) u w
 
   pub on_pi_over : (k : ℕ) (x : Binder) (A t : Term) (u : ℕ) (w : State) → On Key w (pi_over k x A t u w)
-  on_pi_over k x A t u w = search (keeps, only, steps, grows_same) depth 14
+  on_pi_over k x A t u w = search (keeps, only, steps) depth 14
 
   -- ---- Types
 
@@ -148,7 +148,7 @@ module _ (Key : TaskKey → Type 0) (P : Part) (reads : Reads P.view Key) (resol
   on_whole_type bs s u w =
       let bound : (v : ℕ) (z : State) → On Key z (under_binders P (calls_of P) pi_over (type_or_default P (calls_of P) s) no_locals bs v z)
       = λ v z. on_under_binders pi_over (type_or_default P (calls_of P) s) on_pi_over (on_default s) no_locals bs v z in
-      search (keeps, only, steps, grows_same, bound, on_close) depth 16
+      search (keeps, only, steps, bound, on_close) depth 16
 
   pub on_stated : (n : Path) (bs : List OneBinder) (s : Option TermTree) (u : ℕ) (w : State) → On Key w (stated P n bs s u w)
   on_stated n bs s u w = search (keeps, only, steps, grows_same, on_whole_type, on_header) depth 12
@@ -168,7 +168,7 @@ module _ (Key : TaskKey → Type 0) (P : Part) (reads : Reads P.view Key) (resol
   on_whole_value n T s u w =
       let under : (v : ℕ) (z : State) → On Key z (under_pis P (calls_of P) lam (against (calls_of P) s) n no_locals T v z)
       = λ v z. on_under_pis lam (against (calls_of P) s) (on_against s) n no_locals T v z in
-      search (keeps, only, steps, grows_same, under, on_close) depth 16
+      search (keeps, only, steps, under, on_close) depth 16
 
   pub on_written_value : (c : ConstInfo) (n : ℕ) (s : TermTree) (u : ℕ) (w : State) → On Key w (written_value P c n s u w)
   on_written_value c n s u w = search (keeps, only, steps, grows_same, on_whole_value, on_accepted) depth 12
@@ -185,4 +185,4 @@ module _ (Key : TaskKey → Type 0) (P Q : Part) (reads : Reads P.view Key) (res
   on_definition_of D t T u w = search (keeps, only, steps, grows_same, on_header Key Q also too, on_accepted Key Q also too) depth 12
 
   pub on_whole_definition : (D : Declaration) (s : TermTree) (u : ℕ) (w : State) → On Key w (whole_definition P Q D s u w)
-  on_whole_definition D s u w = search (keeps, only, steps, grows_same, on_whole_function, on_close Key Q also too, on_definition_of) depth 20
+  on_whole_definition D s u w = search (keeps, only, steps, on_whole_function, on_close Key Q also too, on_definition_of) depth 20

@@ -35,7 +35,19 @@ use Rattle.lf_elaboration.specs.Axioms as axioms
 use Rattle.lf_elaboration.specs.Run.{gives, checks}
 use Rattle.lf_elaboration.specs.Scope.{candidates_of}
 use Rattle.lf_elaboration.specs.Part.{Part, Locals, State, Run, ask}
-use Rattle.lf_elaboration.specs.Identifiers.{Meaning, own_type, constant, nothing, waits, is_own, or_next, first_found, meaning_of, is_realized, ask_if_realized}
+use Rattle.lf_elaboration.specs.Identifiers.{
+  Meaning,
+  own_type,
+  constant,
+  nothing,
+  waits,
+  is_own,
+  or_next,
+  first_found,
+  meaning_of,
+  is_realized,
+  ask_if_realized,
+}
 use Rattle.lf_elaboration.specs.Statement.{open_pis}
 use Rattle.lf_elaboration.specs.Terms.{OneBinder}
 use Rattle.lf_elaboration_laws.proofs.Wanted.{walk_wants}
@@ -73,7 +85,17 @@ use Rattle.lf_document.specs.Queries.{
   axioms_walked,
   axioms_of,
 }
-use Rattle.lf_document.specs.Inductives.{family_type, Constructing, result_type, fields_type, implicit_pi, constructor_type, constructors, instantiated_types, whole_declaration}
+use Rattle.lf_document.specs.Inductives.{
+  family_type,
+  Constructing,
+  result_type,
+  fields_type,
+  implicit_pi,
+  constructor_type,
+  constructors,
+  instantiated_types,
+  whole_declaration,
+}
 use Rattle.lf_document.specs.StructureCommand.{
   field_name,
   field_there,
@@ -84,7 +106,29 @@ use Rattle.lf_document.specs.StructureCommand.{
   field_definitions,
   all_fields,
 }
-use Rattle.lf_document.specs.EquationsBody.{Resolved, constructor_of, resolved, on_outcome, compiles, type_seen, fields_opened, fields_for, first_of, close_locals, term_against, alternative_term, alternative_terms, bodies, with_props, cases_with, valued, compiled, by_argument, tested, equations_value}
+use Rattle.lf_document.specs.EquationsBody.{
+  Resolved,
+  constructor_of,
+  resolved,
+  on_outcome,
+  compiles,
+  type_seen,
+  fields_opened,
+  fields_for,
+  first_of,
+  close_locals,
+  term_against,
+  alternative_term,
+  alternative_terms,
+  bodies,
+  with_props,
+  cases_with,
+  valued,
+  compiled,
+  by_argument,
+  tested,
+  equations_value,
+}
 use Rattle.lf_document_laws.proofs.Wants.{Wants, reads_of, MayAdd}
 use Rattle.lf_document_laws.proofs.Asked.{only_open, only_pis, only_lambdas, only_argument, only_compile}
 use Rattle.lf_document_laws.proofs.Lasting.{
@@ -180,11 +224,11 @@ module _ (Key : TaskKey → Type 0) (P : Part) (reads : Reads P.view Key) (resol
       let bound : (v : ℕ) (z : State) → On Key z (under_binders P (calls_of P) pi_over (type_or_default P (calls_of P) D.ty) no_locals D.binders v z)
       = λ v z. on_under_binders Key P reads resolves pi_over (type_or_default P (calls_of P) D.ty) (on_pi_over Key P reads resolves)
       (on_default Key P reads resolves D.ty) no_locals D.binders v z in
-      search (keeps, only, steps, grows_same, bound, on_close Key P reads resolves) depth 16
+      search (keeps, only, steps, bound, on_close Key P reads resolves) depth 16
 
   on_result : (D : Declaration) (o : Option TermTree) (L : Locals) (u : ℕ) (w : State) → On Key w (result_type P (calls_of P) D o L u w)
   on_result D (Some s) L u w = search (keeps, only, steps, grows_same, on_type Key P reads resolves) depth 10
-  on_result D None L u w = search (keeps, only, steps, grows_same) depth 10
+  on_result D None L u w = search (keeps, only, steps) depth 10
 
   on_fields : (D : Declaration) (k : Constructing) (L : Locals) (B : Term) (u : ℕ) (w : State) → On Key w (fields_type P (calls_of P) D k L B u w)
   on_fields D k L B u w =
@@ -236,7 +280,8 @@ module _ (Key : TaskKey → Type 0) (P : Part) (reads : Reads P.view Key) (resol
   on_constant_by : (x : Ident) (m : Meaning) → MeaningIn Key m → (u : ℕ) (w : State) → On Key w (constant_by P x m u w)
   on_constant_by x (constant n c) h u w =
       keeps_then Grows Grows Key steps w (ask_if_realized P.view n u w) (λ y. gives n)
-      (keeps_choose Grows Grows Key (is_realized P.view n) (ask n) (gives tt) u w (keeps_ask Grows Grows steps Key n u w) (grows_same w)) (λ y v z. grows_same z)
+      (keeps_choose Grows Grows Key (is_realized P.view n) (ask n) (gives tt) u w (keeps_ask Grows Grows steps Key n u w) (grows_same w))
+      (λ y v z. grows_same z)
   on_constant_by x (own_type n) h u w = grows_same w
   on_constant_by x nothing h u w = grows_same w
   on_constant_by x (waits k) h u w = h
@@ -302,14 +347,14 @@ module _ (Key : TaskKey → Type 0) (P : Part) (reads : Reads P.view Key) (resol
   on_term_against L n s E u w = search (keeps, only, steps, grows_same, on_term Key P reads resolves, on_close_locals) depth 16
 
   on_alternative : (g : Argument) (L : Locals) (a : Resolved) (u : ℕ) (w : State) → On Key w (alternative_term P g L a u w)
-  on_alternative g L a u w = search (keeps, only, steps, grows_same, on_fields_for, on_term_against) depth 16
+  on_alternative g L a u w = search (keeps, only, steps, on_fields_for, on_term_against) depth 16
 
   on_alternatives : (g : Argument) (L : Locals) (alts : List Resolved) (u : ℕ) (w : State) → On Key w (alternative_terms P g L alts u w)
   on_alternatives g L [] u w = grows_same w
   on_alternatives g L (a ∷ alts) u w = search (keeps, only, steps, grows_same, on_alternative, on_alternatives g L alts) depth 12
 
   on_bodies : (g : Argument) (own : Path) (T : Term) (alts : List Resolved) (u : ℕ) (w : State) → On Key w (bodies P g own T alts u w)
-  on_bodies g own T alts u w = search (keeps, only, steps, grows_same, on_alternatives, on_close Key P reads resolves) depth 16
+  on_bodies g own T alts u w = search (keeps, only, steps, on_alternatives, on_close Key P reads resolves) depth 16
 
   on_valued : (c : ConstInfo) (t : Term) (u : ℕ) (w : State) → On Key w (valued P c t u w)
   on_valued c t u w = search (keeps, only, steps, grows_same, on_accepted Key P reads resolves) depth 10
@@ -321,7 +366,7 @@ module _ (Key : TaskKey → Type 0) (P : Part) (reads : Reads P.view Key) (resol
 
   on_by_argument : (c : ConstInfo) (own : Path) (n : ℕ) (alts : List Resolved) (g : Argument) (u : ℕ) (w : State)
       → On Key w (by_argument P c own n alts g u w)
-  on_by_argument c own n alts g u w = search (keeps, only, steps, grows_same, on_bodies, on_compiled) depth 10
+  on_by_argument c own n alts g u w = search (keeps, only, steps, on_bodies, on_compiled) depth 10
 
   on_tested : (c : ConstInfo) (own : Path) (n : ℕ) (alts : List Resolved) (t : Term) (u : ℕ) (w : State) → On Key w (tested P c own n alts t u w)
   on_tested c own n alts t u w =

@@ -83,7 +83,8 @@ module _ (Key : TaskKey → Type 0) where
   with_on Q g l h (done x j) k = (k.0, grew_longer g l j h k.1)
   with_on Q g l h (need i) k = k
 
-  pub lasts_then : {A B : Type 0} (g : Log) (o : Attempt A) (f : A → Task B) → Lasts Key g o → ((x : A) (l : Log) → Lasts Key l (f x l)) → Lasts Key g (go_on o f)
+  pub lasts_then : {A B : Type 0} (g : Log) (o : Attempt A) (f : A → Task B) → Lasts Key g o → ((x : A) (l : Log) → Lasts Key l (f x l))
+      → Lasts Key g (go_on o f)
   lasts_then g (done x l) f h k = lasts_on g l h (f x l) (k x l)
   lasts_then g (need n) f h k = h
 

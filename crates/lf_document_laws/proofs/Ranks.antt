@@ -1,5 +1,37 @@
 -- What a view needs comes before: its open branches are of earlier commands, and so are the parents of its realizable names.
-use Rattle.std.proofs.Common.{◌≡◌, ◌<◌, ◌≤◌, ◌⊎◌, inl, inr, ℕ, suc, ◌+◌, Bool, true, false, ◌&&◌, ◌||◌, nat_eq, nat_lt, if◌then◌else◌, List, [], ◌∷◌, Option, Some, None, Contains, filter, refl, sym, ap, subst, ◌∙◌, arith}
+use Rattle.std.proofs.Common.{
+  ◌≡◌,
+  ◌<◌,
+  ◌≤◌,
+  ◌⊎◌,
+  inl,
+  inr,
+  ℕ,
+  suc,
+  ◌+◌,
+  Bool,
+  true,
+  false,
+  ◌&&◌,
+  ◌||◌,
+  nat_eq,
+  nat_lt,
+  if◌then◌else◌,
+  List,
+  [],
+  ◌∷◌,
+  Option,
+  Some,
+  None,
+  Contains,
+  filter,
+  refl,
+  sym,
+  ap,
+  subst,
+  ◌∙◌,
+  arith,
+}
 use Rattle.std.proofs.lemmas.Bool.{lt-ltb, ltb-true, eqb-true, eqb-false, eq-eqb}
 use Rattle.std.proofs.Math.Nat.{eq-or-lt_of_le}
 use Rattle.lf_core.specs.Term.{Path}
@@ -8,7 +40,33 @@ use Rattle.lf_core.specs.Suffix.{suffix_of, fits_kind}
 use Rattle.lf_core.specs.declared.suffix.Suffix.{Suffix}
 use Rattle.lf_core.specs.declared.constant.TaskKey.{TaskKey}
 use Rattle.lf_core.specs.declared.constant.TaskKey.TheVariants.{Head, Body, Real}
-use Rattle.lf_checker.specs.View.{View, Entry, OpenBranch, base_position, stands_before, find_entry, branch_over, parent_of, last_of, absent, need_body, need_real, answer_of, by_parent, by_suffix, by_branch, by_entry, lookup_of, position_of, origin_of, entries_before, branches_before, failed_before, view_at, view_real_at}
+use Rattle.lf_checker.specs.View.{
+  View,
+  Entry,
+  OpenBranch,
+  base_position,
+  stands_before,
+  find_entry,
+  branch_over,
+  parent_of,
+  last_of,
+  absent,
+  need_body,
+  need_real,
+  answer_of,
+  by_parent,
+  by_suffix,
+  by_branch,
+  by_entry,
+  lookup_of,
+  position_of,
+  origin_of,
+  entries_before,
+  branches_before,
+  failed_before,
+  view_at,
+  view_real_at,
+}
 use Rattle.lf_extension_laws.specs.Needs.{IsWanted}
 use Rattle.lf_resolution_laws.specs.Needs.{ResolutionWaits}
 use Rattle.lf_elaboration_laws.proofs.Reached.{cons_cases, here, there, none_in}
@@ -181,7 +239,14 @@ command_may V p k limit at W e c w (Real n) h = real_before_command V p k n
 
 -- Where the realized constants of the base are made nothing is needed.
 abbrev base_view_of : View → View
-base_view_of V = record { entries = entries_before 0 V.entries; branches = branches_before 0 V.branches; realized = []; failed = []; position = 0; for_base = true }
+base_view_of V = record {
+  entries = entries_before 0 V.entries;
+  branches = branches_before 0 V.branches;
+  realized = [];
+  failed = [];
+  position = 0;
+  for_base = true;
+}
 
 abbrev command_view_of : View → ℕ → View
 command_view_of V origin = record {

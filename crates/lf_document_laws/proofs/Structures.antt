@@ -29,7 +29,25 @@ use Rattle.lf_elaboration_laws.proofs.Kept.{kept_then, kept_choose}
 use Rattle.lf_document.specs.Task.{Judged}
 use Rattle.lf_document.specs.Setting.{Setting, Declaration, nesting, no_locals, by_kernel}
 use Rattle.lf_document.specs.Inductives.{Constructing, own_part, declared, inductive_constants}
-use Rattle.lf_document.specs.StructureCommand.{field_name, field_there, unless_taken, with_self, field_constant, field_definition, at_field, field_definitions, all_fields, pushed_all, with_definitions, if_structure, structure_constants, constructor_of_fields, constructor_name, recursor_name, field_names}
+use Rattle.lf_document.specs.StructureCommand.{
+  field_name,
+  field_there,
+  unless_taken,
+  with_self,
+  field_constant,
+  field_definition,
+  at_field,
+  field_definitions,
+  all_fields,
+  pushed_all,
+  with_definitions,
+  if_structure,
+  structure_constants,
+  constructor_of_fields,
+  constructor_name,
+  recursor_name,
+  field_names,
+}
 use Rattle.lf_document_laws.specs.Extension.{on_view}
 use Rattle.lf_document_laws.proofs.Gives.{Gives, gives_then, gives_with, gives_header, kept_given, Makes, makes_then, makes_answered, kept_made}
 use Rattle.lf_document_laws.proofs.Pushed.{IsTold, AllTold, own_still, one_extends, all_extend}
@@ -139,7 +157,8 @@ module _ (X : Setting) (V : View) (x : Tells V X.view) (own : stands_before X.vi
       (kept_then _ _ _ _
       (kept_kernel (named_both X X.view V x D) (all_fields kind (pushed_all X.view cs X.position) X.position D fs T)
       (all_fields kind (pushed_all V cs X.position) X.position D fs T) u w
-      (kept_all_fields kind (pushed_all X.view cs X.position) (pushed_all V cs X.position) (all_extend cs X.view V x X.position own told) X.position (own_still cs X.view X.position own) D fs T u))
+      (kept_all_fields kind (pushed_all X.view cs X.position) (pushed_all V cs X.position) (all_extend cs X.view V x X.position own told) X.position
+      (own_still cs X.view X.position own) D fs T u))
       (λ ds v z. refl))
 
   kept_if_structure : (cs : List ConstInfo) → AllTold X.view cs → (fs : List Ident) (o : Option Structure) (u : ℕ) (w : State)

@@ -68,8 +68,30 @@ use Rattle.lf_document.specs.Setting.{Setting, Declaration, declaration, nesting
 use Rattle.lf_document.specs.Constants.{Valued, with_value, Header, Made, nothing_made, entries_made, is_marked, is_one_marked}
 use Rattle.lf_document.specs.Headers.{header_part, Stated, stated_for_value, constants_made, in_one_part, axiom_constants, axiom_head, definition_head}
 use Rattle.lf_document.specs.Values.{height_read, value_or_sorry, warned, completed, written_value, whole_definition}
-use Rattle.lf_document.specs.Inductives.{own_part, with_family, declaring, Constructing, constructing, declared, family_type, whole_declaration, inductive_constants, inductive_head}
-use Rattle.lf_document.specs.StructureCommand.{constructor_of_fields, constructor_name, recursor_name, field_names, all_fields, pushed_all, with_definitions, if_structure, structure_constants, structure_head}
+use Rattle.lf_document.specs.Inductives.{
+  own_part,
+  with_family,
+  declaring,
+  Constructing,
+  constructing,
+  declared,
+  family_type,
+  whole_declaration,
+  inductive_constants,
+  inductive_head,
+}
+use Rattle.lf_document.specs.StructureCommand.{
+  constructor_of_fields,
+  constructor_name,
+  recursor_name,
+  field_names,
+  all_fields,
+  pushed_all,
+  with_definitions,
+  if_structure,
+  structure_constants,
+  structure_head,
+}
 use Rattle.lf_document.specs.EquationsBody.{equations_value}
 use Rattle.lf_document.specs.Helpers.{helper_name, helper_part, helper_header, with_helper, helpers}
 use Rattle.lf_document.specs.Queries.{told, query, variable_types, checked_term, reduced_term, axioms_of}
@@ -176,7 +198,8 @@ module _ (res : ResolutionWaits) (Key : TaskKey → Type 0) where
         (on_family Key (own_part X D) reads found D u s)
         (λ T v z.
         let also : Wants (view_with_type X.view (declaring D T [])) Key
-        = wants_pushed X.view (type_alone (declaring D T [])) X.view.position (type_childless X.view (type_alone (declaring D T [])) X.view.position refl) Key w in
+        = wants_pushed X.view (type_alone (declaring D T [])) X.view.position
+        (type_childless X.view (type_alone (declaring D T [])) X.view.position refl) Key w in
         on_whole_declaration Key (with_family X D T) (reads_of (view_with_type X.view (declaring D T [])) Key also)
         (resolving (view_with_type X.view (declaring D T [])) also X.scope) D T ks v z)
 

@@ -10,7 +10,34 @@ use Rattle.lf_core.specs.declared.constant.ConstInfo.{ConstInfo}
 use Rattle.lf_core.specs.declared.constant.ConstKind.TheVariants.{Inductive}
 use Rattle.lf_core.specs.declared.constant.TaskKey.{TaskKey}
 use Rattle.lf_core.specs.declared.constant.TaskKey.TheVariants.{Head, Body, Real}
-use Rattle.lf_checker.specs.View.{View, Entry, find_entry, branch_over, parent_of, last_of, stands_before, found, absent, need_real, by_parent, by_suffix, by_branch, by_entry, lookup_of, KnownBody, value, opaque, unresolved, body_of, There, there, not_there, not_known, there_of, pushed}
+use Rattle.lf_checker.specs.View.{
+  View,
+  Entry,
+  find_entry,
+  branch_over,
+  parent_of,
+  last_of,
+  stands_before,
+  found,
+  absent,
+  need_real,
+  by_parent,
+  by_suffix,
+  by_branch,
+  by_entry,
+  lookup_of,
+  KnownBody,
+  value,
+  opaque,
+  unresolved,
+  body_of,
+  There,
+  there,
+  not_there,
+  not_known,
+  there_of,
+  pushed,
+}
 use Rattle.lf_checker.specs.Run as checker
 use Rattle.lf_checker.specs.Calls.{Seen, known, unknown, missing, see}
 use Rattle.lf_extension_laws.specs.Needs.{IsWanted, Waits}
