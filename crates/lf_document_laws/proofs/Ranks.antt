@@ -35,6 +35,7 @@ use Rattle.std.proofs.Common.{
 use Rattle.std.proofs.lemmas.Bool.{lt-ltb, ltb-true, eqb-true, eqb-false, eq-eqb}
 use Rattle.std.proofs.Math.Nat.{eq-or-lt_of_le}
 use Rattle.lf_core.specs.Term.{Path}
+use Rattle.lf_name.proofs.Names.{path_is}
 use Rattle.lf_core.specs.Same.{same_path}
 use Rattle.lf_core.specs.Suffix.{suffix_of, fits_kind}
 use Rattle.lf_core.specs.declared.suffix.Suffix.{Suffix}
@@ -60,7 +61,6 @@ use Rattle.lf_checker.specs.View.{
   by_entry,
   lookup_of,
   position_of,
-  origin_of,
   entries_before,
   branches_before,
   failed_before,
@@ -69,12 +69,12 @@ use Rattle.lf_checker.specs.View.{
 }
 use Rattle.lf_extension_laws.specs.Needs.{IsWanted}
 use Rattle.lf_resolution_laws.specs.Needs.{ResolutionWaits}
+use Rattle.lf_elaboration_laws.specs.Extension.{AreDistinct}
 use Rattle.lf_elaboration_laws.proofs.Reached.{cons_cases, here, there, none_in}
-use Rattle.lf_document.specs.TaskValue.{Outcome, has, waits_for, real_value}
+use Rattle.lf_document.specs.TaskValue.{Outcome, has, waits_for, real_value, head_value, body_value}
 use Rattle.lf_document.specs.Rank.{rank_of, is_lower}
 use Rattle.lf_document_laws.specs.Needs.{OutcomeWaits, OfCommands, ComesBefore, at_position, NeedsHaveLowerRank}
-use Rattle.lf_document_laws.proofs.Wants.{Wants, MayAdd}
-use Rattle.lf_document_laws.proofs.Tasks.{head_waits, body_waits, real_value_waits}
+use Rattle.lf_document_laws.proofs.Tasks.{values_wait}
 
 -- ---- Tests of numbers
 
@@ -183,9 +183,6 @@ module _ (W : View) (n : Path) where
   has_parent : lookup_of W n ≡ need_real → HasParent W n
   has_parent h = by_entry_has (find_entry W.entries n) h
 
-  origin_is : (h : HasParent W n) → origin_of W n ≡ h.parent.position
-  origin_is h = ap position_of h.finds
-
 -- ---- Ranks of what is needed
 
 base_rank : (n : Path) (o : ℕ) → o ≡ base_position → rank_of (Real n) o ≡ (0, 2)
@@ -203,39 +200,39 @@ origin_lower p k o n h = at (before_cases p o h)
     at (inl q) = subst (λ r. is_lower r (p + 1, k) ≡ true) (sym (base_rank n o q)) (lower_first 0 (p + 1) 2 k (omega arith))
     at (inr l) = later l (nat_eq o base_position)
 
--- What is found before a position stands before it.
-found_before : (p : ℕ) (es : List Entry) (m : Path) (d : Entry) → find_entry (entries_before p es) m ≡ Some d → stands_before p d.position ≡ true
-found_before p [] m d h = absurd (cc)
-found_before p (e ∷ es) m d h = at (stands_before p e.position) refl h (found_before p es m d)
+-- What is found before a position is what is found of all, where no two entries have one name.
+found_of_all : (p : ℕ) (es : List Entry) (m : Path) (d : Entry) → AreDistinct es → find_entry (entries_before p es) m ≡ Some d → find_entry es m ≡ Some d
+found_of_all p [] m d a h = absurd (cc)
+found_of_all p (e ∷ es) m d a h = at (stands_before p e.position) h (found_of_all p es m d a.1)
   where
-    named : stands_before p e.position ≡ true → (find_entry (entries_before p es) m ≡ Some d → stands_before p d.position ≡ true) → (c : Bool)
-        → (if c then Some e else find_entry (entries_before p es) m) ≡ Some d → stands_before p d.position ≡ true
-    named q r true g = let same : e ≡ d = cc in subst (λ x. stands_before p x.position ≡ true) same q
-    named q r false g = r g
+    other : find_entry es m ≡ Some d → (c : Bool) → same_path e.info.name m ≡ c → (if c then Some e else find_entry es m) ≡ Some d
+    other g true q =
+        let none : find_entry es m ≡ None = subst (λ n. find_entry es n ≡ None) (path_is e.info.name m q) a.0 in
+        let not : None ≡ Some d = sym none ∙ g in absurd (cc)
+    other g false q = g
 
-    at : (b : Bool) → stands_before p e.position ≡ b → find_entry (if b then e ∷ entries_before p es else entries_before p es) m ≡ Some d
-        → (find_entry (entries_before p es) m ≡ Some d → stands_before p d.position ≡ true) → stands_before p d.position ≡ true
-    at true q g r = named q r (same_path e.info.name m) g
-    at false q g r = r g
+    same : (find_entry (entries_before p es) m ≡ Some d → find_entry es m ≡ Some d) → (c : Bool)
+        → (if c then Some e else find_entry (entries_before p es) m) ≡ Some d → (if c then Some e else find_entry es m) ≡ Some d
+    same r true g = g
+    same r false g = r g
 
--- So a realized constant comes before a command whatever its name: its parent stands before, or isn't there.
-real_before_command : (V : View) (p k : ℕ) (n : Path) → ComesBefore (view_at V p) (p + 1, k) (Real n)
-real_before_command V p k n = at (find_entry (entries_before p V.entries) (parent_of n)) refl
-  where
-    at : (o : Option Entry) → find_entry (entries_before p V.entries) (parent_of n) ≡ o → is_lower (rank_of (Real n) (position_of o)) (p + 1, k) ≡ true
-    at (Some d) q = origin_lower p k d.position n (found_before p V.entries (parent_of n) d q)
-    at None q = origin_lower p k base_position n refl
+    at : (b : Bool) → find_entry (if b then e ∷ entries_before p es else entries_before p es) m ≡ Some d
+        → (find_entry (entries_before p es) m ≡ Some d → find_entry es m ≡ Some d) → (if same_path e.info.name m then Some e else find_entry es m) ≡ Some d
+    at true g r = same r (same_path e.info.name m) g
+    at false g r = other (r g) (same_path e.info.name m) refl
 
-command_before : (V : View) → OfCommands V → (p k : ℕ) → Wants (view_at V p) (ComesBefore (view_at V p) (p + 1, k))
-command_before V of p k (Head i) h = absurd h
-command_before V of p k (Body q) h = let l : q < p = earlier V of p q h in lower_first (q + 1) (p + 1) 1 k (omega arith)
-command_before V of p k (Real n) h = real_before_command V p k n
+-- So its origin is the position of its parent, which stands before.
+parent_lower : (V : View) → AreDistinct V.entries → (q p k : ℕ) (n : Path) (d : Entry) → find_entry (entries_before q V.entries) (parent_of n) ≡ Some d
+    → stands_before p d.position ≡ true → ComesBefore V (p + 1, k) (Real n)
+parent_lower V a q p k n d h b =
+    subst (λ o. is_lower (rank_of (Real n) (position_of o)) (p + 1, k) ≡ true) (sym (found_of_all q V.entries (parent_of n) d a h))
+    (origin_lower p k d.position n b)
 
--- Constants that are added open no branch.
-command_may : (V : View) (p k limit at : ℕ) → MayAdd (ComesBefore (view_at V p) (p + 1, k)) limit at
-command_may V p k limit at W e c w (Head i) h = absurd h
-command_may V p k limit at W e c w (Body q) h = w (Body q) h
-command_may V p k limit at W e c w (Real n) h = real_before_command V p k n
+command_before : (V : View) → AreDistinct V.entries → OfCommands V → (p k : ℕ) (n : TaskKey) → IsWanted (view_at V p) n → ComesBefore V (p + 1, k) n
+command_before V a of p k (Head i) h = absurd h
+command_before V a of p k (Body q) h = let l : q < p = earlier V of p q h in lower_first (q + 1) (p + 1) 1 k (omega arith)
+command_before V a of p k (Real n) h =
+    let g : HasParent (view_at V p) n = has_parent (view_at V p) n h in parent_lower V a p p k n g.parent g.finds g.before
 
 -- Where the realized constants of the base are made nothing is needed.
 abbrev base_view_of : View → View
@@ -263,23 +260,21 @@ of_base V of (Head i) h = h
 of_base V of (Body q) h = let l : q < 0 = earlier V of 0 q h in omega arith
 of_base V of (Real n) h = let g : HasParent (base_view_of V) n = has_parent (base_view_of V) n h in let f : true ≡ false = g.not_base in cc
 
-of_command : (V : View) → OfCommands V → (origin : ℕ) (k : TaskKey) → IsWanted (command_view_of V origin) k
-    → ComesBefore (command_view_of V origin) (origin + 1, 2) k
-of_command V of origin (Head i) h = absurd h
-of_command V of origin (Body q) h = let l : q < suc origin = earlier V of (suc origin) q h in lower_body q origin (omega arith)
-of_command V of origin (Real n) h =
+of_command : (V : View) → AreDistinct V.entries → OfCommands V → (origin : ℕ) (k : TaskKey) → IsWanted (command_view_of V origin) k
+    → ComesBefore V (origin + 1, 2) k
+of_command V a of origin (Head i) h = absurd h
+of_command V a of origin (Body q) h = let l : q < suc origin = earlier V of (suc origin) q h in lower_body q origin (omega arith)
+of_command V a of origin (Real n) h =
     let g : HasParent (command_view_of V origin) n = has_parent (command_view_of V origin) n h in
-    subst (λ o. is_lower (rank_of (Real n) o) (origin + 1, 2) ≡ true) (sym (origin_is (command_view_of V origin) n g))
-    (origin_lower origin 2 g.parent.position n g.before)
+    parent_lower V a (suc origin) origin 2 n g.parent g.finds g.before
 
-real_before : (V : View) → OfCommands V → (origin : ℕ) (n : Path) (k : TaskKey) → IsWanted (view_real_at V origin) k
-    → ComesBefore (view_real_at V origin) (rank_of (Real n) origin) k
-real_before V of origin n k = at (nat_eq origin base_position)
+real_before : (V : View) → AreDistinct V.entries → OfCommands V → (origin : ℕ) (n : Path) (k : TaskKey) → IsWanted (view_real_at V origin) k
+    → ComesBefore V (rank_of (Real n) origin) k
+real_before V a of origin n k = at (nat_eq origin base_position)
   where
-    at : (b : Bool) → IsWanted (if b then base_view_of V else command_view_of V origin) k
-        → ComesBefore (if b then base_view_of V else command_view_of V origin) (if b then (0, 2) else (origin + 1, 2)) k
+    at : (b : Bool) → IsWanted (if b then base_view_of V else command_view_of V origin) k → ComesBefore V (if b then (0, 2) else (origin + 1, 2)) k
     at true h = absurd (of_base V of k h)
-    at false h = of_command V of origin k h
+    at false h = of_command V a of origin k h
 
 -- ---- The law
 
@@ -289,10 +284,13 @@ outcome_before Key Rank f (waits_for k) h = f k h
 
 pub needs_lower : ResolutionWaits → NeedsHaveLowerRank
 needs_lower res = record {
-  heads = λ V of s p budget c.
-      head_waits res (ComesBefore (view_at V p) (p + 1, 0)) (at_position V s p budget) (command_before V of p 0) (command_may V p 0 p p) c;
-  bodies = λ V of s p budget c h.
-      body_waits res (ComesBefore (view_at V p) (p + 1, 1)) (at_position V s p budget) (command_before V of p 1) (command_may V p 1 p p) c h;
-  reals = λ V of origin units n.
-      outcome_before _ _ (real_before V of origin n) (real_value (view_real_at V origin) units n) (real_value_waits (view_real_at V origin) units n);
+  heads = λ V a of s p budget own c.
+      outcome_before _ _ (command_before V a of p 0) (head_value (at_position V s p budget) c)
+      ((values_wait res).heads (at_position V s p budget) own c);
+  bodies = λ V a of s p budget own c h.
+      outcome_before _ _ (command_before V a of p 1) (body_value (at_position V s p budget) c h)
+      ((values_wait res).bodies (at_position V s p budget) own c h);
+  reals = λ V a of origin units n.
+      outcome_before _ _ (real_before V a of origin n) (real_value (view_real_at V origin) units n)
+      ((values_wait res).reals (view_real_at V origin) units n);
 }

@@ -7,6 +7,7 @@ use Rattle.lf_syntax.specs.declared.command.Command.{Command}
 use Rattle.lf_checker.specs.View.{View, OpenBranch, base_position, origin_of, view_at, view_real_at}
 use Rattle.lf_extension_laws.specs.Needs.{IsWanted}
 use Rattle.lf_elaboration.specs.Scope.{Scope}
+use Rattle.lf_elaboration_laws.specs.Extension.{AreDistinct}
 use Rattle.lf_elaboration_laws.specs.Unifier.{Begins}
 use Rattle.lf_document.specs.Task.{Log, Attempt, done, need}
 use Rattle.lf_document.specs.Setting.{Setting}
@@ -47,24 +48,25 @@ pub record ValuesWait : Type 0 where
 abbrev pub OfCommands : View → Type 0
 OfCommands V = (b : OpenBranch) → Contains V.branches b → b.position ≡ base_position → ⊥
 
--- The position of a realized constant's parent, as the task's own view tells it.
+-- The position of a realized constant's parent.
 abbrev pub origin_in : View → TaskKey → ℕ
 origin_in V (Head i) = 0
 origin_in V (Body i) = 0
 origin_in V (Real n) = origin_of V n
 
--- What is waited for over this view comes before.
+-- By the origins of the whole view, so that a task has one rank for all that wait for it.
 abbrev pub ComesBefore : View → ℕ × ℕ → TaskKey → Type 0
 ComesBefore V r k = is_lower (rank_of k (origin_in V k)) r ≡ true
 
 abbrev pub at_position : View → Scope → ℕ → ℕ → Setting
 at_position V s p budget = record { view = view_at V p; scope = s; position = p; budget = budget }
 
+-- Over the view at a command's position, and that at the origin of a realized constant, where no two entries have one name.
 pub record NeedsHaveLowerRank : Type 0 where
-  pub heads : (V : View) → OfCommands V → (s : Scope) (p budget : ℕ) (c : Command)
-      → OutcomeWaits (ComesBefore (view_at V p) (rank_of (Head p) 0)) (head_value (at_position V s p budget) c)
-  pub bodies : (V : View) → OfCommands V → (s : Scope) (p budget : ℕ) (c : Command) (h : Option Header)
-      → OutcomeWaits (ComesBefore (view_at V p) (rank_of (Body p) 0)) (body_value (at_position V s p budget) c h)
-  -- of a realized constant whose parent is of the base, or of the command at this position
-  pub reals : (V : View) → OfCommands V → (origin units : ℕ) (n : Path)
-      → OutcomeWaits (ComesBefore (view_real_at V origin) (rank_of (Real n) origin)) (real_value (view_real_at V origin) units n)
+  pub heads : (V : View) → AreDistinct V.entries → OfCommands V → (s : Scope) (p budget : ℕ) → IsOwn (at_position V s p budget) → (c : Command)
+      → OutcomeWaits (ComesBefore V (rank_of (Head p) 0)) (head_value (at_position V s p budget) c)
+  pub bodies : (V : View) → AreDistinct V.entries → OfCommands V → (s : Scope) (p budget : ℕ) → IsOwn (at_position V s p budget) → (c : Command)
+      (h : Option Header)
+      → OutcomeWaits (ComesBefore V (rank_of (Body p) 0)) (body_value (at_position V s p budget) c h)
+  pub reals : (V : View) → AreDistinct V.entries → OfCommands V → (origin units : ℕ) (n : Path)
+      → OutcomeWaits (ComesBefore V (rank_of (Real n) origin)) (real_value (view_real_at V origin) units n)
