@@ -17,7 +17,6 @@ use Rattle.lf_elaboration.specs.Part as part
 use Rattle.lf_elaboration.specs.Part.{Part, Locals, State, refusal_at}
 use Rattle.lf_elaboration_laws.specs.Extension.{Kept}
 use Rattle.lf_document.specs.Task as task
-use Rattle.lf_document_laws.specs.Extension as extension
 
 -- ---- Of the checker
 
@@ -131,20 +130,10 @@ abbrev pub Leaves : {A : Type 0} → (A → Type 0) → task.Attempt A → Type 
 Leaves P (task.done x g) = P x
 Leaves P (task.need k) = Unit {0}
 
-pub leaves_then : {A B : Type 0} (P : B → Type 0) (o : task.Attempt A) (f : A → task.Task B) → ((x : A) (g : task.Log) → Leaves P (f x g))
-    → Leaves P (task.go_on o f)
-leaves_then P (task.done x g) f h = h x g
-leaves_then P (task.need k) f h = tt
-
 pub leaves_with : {A B : Type 0} (Q : A → Type 0) (P : B → Type 0) (o : task.Attempt A) (f : A → task.Task B) → Leaves Q o
     → ((x : A) (g : task.Log) → Q x → Leaves P (f x g)) → Leaves P (task.go_on o f)
 leaves_with Q P (task.done x g) f k h = h x g k
 leaves_with Q P (task.need n) f k h = tt
-
-pub kept_left : {A B : Type 0} (P : A → Type 0) (o p : task.Attempt A) (f g : A → task.Task B) → Leaves P o → extension.Kept o p
-    → ((x : A) (l : task.Log) → P x → extension.Kept (f x l) (g x l)) → extension.Kept (task.go_on o f) (task.go_on p g)
-kept_left P (task.done x l) p f g h k i = subst (λ q. extension.Kept (f x l) (task.go_on q g)) k (i x l h)
-kept_left P (task.need n) p f g h k i = tt
 
 -- ---- Of parts
 
