@@ -1,0 +1,4 @@
+pub mod Parts
+pub mod Meant
+pub mod Within
+pub mod Returned
