@@ -1,7 +1,6 @@
 -- The pis of a type, counted one at a time.
 use Rattle.std.proofs.Common.{◌≡◌, ℕ, zero, suc, ◌+◌, ◌-◌, ◌<◌, refl, sym, ap, ◌∙◌, arith}
 use Rattle.std.specs.Prelude.{Option, Some, None}
-use Rattle.lf_core.specs.Term.{Term}
 use Rattle.lf_rules.specs.Environment.{Context, with}
 use Rattle.lf_checker.specs.Whnf.{turn_limit}
 use Rattle.lf_elaboration.specs.Forms.{Binding, as_pi}

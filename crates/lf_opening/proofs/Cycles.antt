@@ -1,9 +1,8 @@
 -- The items' runs are the runs of this crate and the nested calls in a row.
-use Rattle.std.proofs.Common.{◌≡◌, ℕ, ◌-◌, Bool, true, false, List, [], refl, sym, ap, ◌∙◌}
+use Rattle.std.proofs.Common.{◌≡◌, ℕ, ◌-◌, Bool, true, false, refl, sym, ap, ◌∙◌}
 use Rattle.std.specs.Prelude.{Option, Some, None}
 use Rattle.lf_core.specs.Term.{level_zero, Term}
 use Rattle.lf_checker.specs.LevelTest.{is_same}
-use Rattle.lf_checker.specs.Whnf.{turn_limit}
 use Rattle.lf_syntax.specs.declared.leaf.Ident.{Ident}
 use Rattle.lf_syntax.specs.Tree as written
 use Rattle.lf_syntax.specs.Tree.{TermTree, RuleTrees, place}
@@ -14,7 +13,6 @@ use Rattle.lf_elaboration.specs.Part.{Part, State, Locals, Run, Calls, Typed, le
 use Rattle.lf_elaboration.specs.Application.{agreed}
 use Rattle.lf_elaboration.specs.Closing.{Mark, mark, all_assigned, all_levels_assigned, close}
 use Rattle.lf_elaboration.specs.Motive.{places_for}
-use Rattle.lf_elaboration.specs.Step.{Step}
 use Rattle.lf_elaboration.specs.Equations.{Equation, as_equation, equation_term}
 use Rattle.lf_elaboration.specs.Direct.{Rest, fails_as, ends_with, proves_one}
 use Rattle.lf_elaboration.specs.Apply as applying

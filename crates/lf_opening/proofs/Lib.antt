@@ -4,3 +4,4 @@ pub mod Listed
 pub mod Places
 pub mod Cycles
 pub mod Unfolded
+pub mod Reflexive

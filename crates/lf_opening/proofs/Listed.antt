@@ -1,13 +1,12 @@
 -- Goals, one after another.
 use Rattle.std.proofs.Common.{◌≡◌, ℕ, Bool, true, false, List, [], ◌∷◌, ◌++◌, refl, sym, ap, ◌∙◌, append_assoc}
-use Rattle.std.specs.Prelude.{Option, Some, None, is_some, map}
+use Rattle.std.specs.Prelude.{is_some, map}
 use Rattle.std.proofs.lemmas.List.{append-nil}
 use Rattle.lf_name.specs.declared.binder.BinderKind.{BinderKind}
 use Rattle.lf_name.specs.declared.binder.BinderKind.TheVariants.{Explicit, Implicit, Inst}
 use Rattle.lf_elaboration.specs.Metavariables.{value}
 use Rattle.lf_elaboration.specs.Run.{Answer, done, failed, out, need, go_on, gives, choose}
 use Rattle.lf_elaboration.specs.Part.{State, Run}
-use Rattle.lf_elaboration.specs.Direct.{Goal}
 use Rattle.lf_elaboration.specs.Apply as spec
 use Rattle.lf_elaboration.specs.Apply.{Given, as_goal, goals_given}
 use Rattle.lf_opening.specs.Goals.{goal_behind, goals_behind, goals_of, goal_of}

@@ -1,8 +1,8 @@
 -- The items' runs as the runs of this crate and the nested calls in a row.
-use Rattle.std.specs.Prelude.{ℕ, Bool, false, Option, Some, None, List}
+use Rattle.std.specs.Prelude.{ℕ, Bool, false, Option, Some, None}
 use Rattle.lf_core.specs.Term.{Term}
 use Rattle.lf_syntax.specs.declared.leaf.Ident.{Ident}
-use Rattle.lf_syntax.specs.Tree.{TermTree, RuleTrees, place}
+use Rattle.lf_syntax.specs.Tree.{TermTree, place}
 use Rattle.lf_elaboration.specs.Messages as says
 use Rattle.lf_elaboration.specs.Messages.{ProofItem}
 use Rattle.lf_elaboration.specs.Run.{◌>>=◌, ◌>>◌}
@@ -11,7 +11,6 @@ use Rattle.lf_elaboration.specs.Closing.{mark, close}
 use Rattle.lf_elaboration.specs.Step.{Step}
 use Rattle.lf_elaboration.specs.Direct.{Rest, ends_with, proves_one}
 use Rattle.lf_elaboration.specs.Apply.{goals_given}
-use Rattle.lf_elaboration.specs.Rewrite as spec
 use Rattle.lf_elaboration.specs.Rewrite.{first_goal, unfolding_term}
 use Rattle.lf_opening.specs.Goals.{applied}
 use Rattle.lf_opening.specs.Rules.{in_prop, by_rule, proved, reflexive_proof}

@@ -1,5 +1,5 @@
 -- What `apply` does behind the elaborated term, in parts. A device of the proof.
-use Rattle.std.specs.Prelude.{ℕ, ◌-◌, Option, Some, is_some, List, [], ◌∷◌, ◌++◌}
+use Rattle.std.specs.Prelude.{ℕ, ◌-◌, Some, is_some, List, [], ◌∷◌, ◌++◌}
 use Rattle.lf_core.specs.Term.{Term}
 use Rattle.lf_name.specs.declared.binder.BinderKind.{BinderKind}
 use Rattle.lf_name.specs.declared.binder.BinderKind.TheVariants.{Explicit, Implicit, Inst}

@@ -1,5 +1,5 @@
 -- One turn of the opening of pis, and the openings by their names alone. A device of the proof.
-use Rattle.std.specs.Prelude.{ℕ, Option, Some, None, [], ◌∷◌, ◌++◌}
+use Rattle.std.specs.Prelude.{ℕ, Option, Some, None, []}
 use Rattle.lf_core.specs.Term.{Term}
 use Rattle.lf_checker.specs.Whnf.{turn_limit}
 use Rattle.lf_elaboration.specs.Forms.{Binding, as_pi}

@@ -1,4 +1,4 @@
-use Rattle.std.proofs.Common.{◌≡◌, sym, ◌∙◌}
+use Rattle.std.proofs.Common.{◌∙◌}
 use Rattle.lf_opening.proofs.Turns.{all_ends_as}
 use Rattle.lf_opening.proofs.opening.open_all.Goals as goal
 

@@ -1,5 +1,4 @@
 use Rattle.std.proofs.Common.{◌≡◌, ◌+◌, ◌≤◌}
-use Rattle.lf_checker.specs.Whnf.{turn_limit}
 use Rattle.lf_elaboration.specs.Part.{State}
 use Rattle.lf_part.specs.Values.{part, calls}
 use Rattle.lf_opening.specs.Pis.{pis_of, pis_behind}

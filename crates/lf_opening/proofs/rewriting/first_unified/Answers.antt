@@ -1,4 +1,4 @@
-use Rattle.std.proofs.Common.{◌≡◌, ◌∙◌, arith}
+use Rattle.std.proofs.Common.{◌∙◌, arith}
 use Rattle.lf_opening.proofs.Places.{this_unifies, next_unifies, none_unifies}
 use Rattle.lf_opening.proofs.rewriting.first_unified.Goals as goal
 
