@@ -1,0 +1,9 @@
+pub mod Rows
+pub mod Started
+pub mod Formed
+pub mod Bound
+pub mod Rounded
+pub mod Blocks
+pub mod Depths
+pub mod Listed
+pub mod Ruled
