@@ -1,0 +1,3 @@
+pub mod Theres
+pub mod Returns
+pub mod Tellings
